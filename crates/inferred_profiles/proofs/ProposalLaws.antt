@@ -9,7 +9,7 @@ use Rattle.terminal_rules.specs.declared.event.Event.{Event}
 use Rattle.terminal_rules.proofs.Reach.Same.{out-reach}
 use Rattle.terminal_rules.specs.Out.{out}
 use Rattle.terminal_recordings.specs.Recordings.{Sighting, seen_then, sightings_from, IsExplained}
-use Rattle.terminal_recordings.specs.Masks.{MaskedSighting, ExplainsSome}
+use Rattle.terminal_recordings.specs.MaybeGaps.{MaybeSighting, ExplainsReading}
 use Rattle.rt1553.specs.declared.fault.LoadFault.{LoadFault}
 use Rattle.rt1553.specs.declared.fault.LoadFault.TheVariants as load
 use Rattle.rt1553.specs.Load.{is_canon_text, Of, OfBy, Reaches, IsNotLoaded}
@@ -25,8 +25,8 @@ sightings_alike P Q alike h (e ∷ es) = λ j. seen_then e (alike h e j) (sighti
 explained_alike : (P Q : Description) → AnswersAlike P Q → (recording : List Sighting) → IsExplained P recording → IsExplained Q recording
 explained_alike P Q alike recording (es, proper, seen) = (es, proper, sym (sightings_alike P Q alike [] es) ∙ seen)
 
-some_alike : (P Q : Description) → AnswersAlike P Q → (recording : List MaskedSighting) → ExplainsSome (IsExplained P) recording → ExplainsSome (IsExplained Q) recording
-some_alike P Q alike recording (seen, fits, x) = (seen, fits, explained_alike P Q alike seen x)
+some_alike : (P Q : Description) → AnswersAlike P Q → (recording : List MaybeSighting) → ExplainsReading (IsExplained P) recording → ExplainsReading (IsExplained Q) recording
+some_alike P Q alike recording (reading, is, some) = (reading, is, (some.0, some.1, explained_alike P Q alike some.0 some.2))
 
 -- what can be reached of a text answers as the text
 reached_alike : (v : Parts) (P : Description) → IsNormal v → description_in v ≡ reach P → AnswersAlike (description_in v) P
@@ -34,10 +34,10 @@ reached_alike v P normal reached h e =
     let small : P.address ≤ 30 = subst (λ n. n ≤ 30) (ap (λ D. D.address) reached) normal.address in
     ap (λ D. out D h e) reached ∙ out-reach P h e small
 
-is_of : (text : List ℕ) (address : ℕ) (recording : List MaskedSighting) (p : IsProposal address recording text) → Of text p.description
+is_of : (text : List ℕ) (address : ℕ) (recording : List MaybeSighting) (p : IsProposal address recording text) → Of text p.description
 is_of text address recording p = subst (λ b. OfBy b text p.description) (sym p.toml) p.of
 
-pub proposal_of : (text : List ℕ) (v : Parts) (recording : List MaskedSighting) → is_canon_text text ≡ false → IsNormal v → Reaches text v → ExplainsSome (IsExplained (description_in v)) recording → IsProposal v.address recording text
+pub proposal_of : (text : List ℕ) (v : Parts) (recording : List MaybeSighting) → is_canon_text text ≡ false → IsNormal v → Reaches text v → ExplainsReading (IsExplained (description_in v)) recording → IsProposal v.address recording text
 proposal_of text v recording toml normal r explains = record {
   description = r.description;
   toml = toml;
@@ -46,23 +46,23 @@ proposal_of text v recording toml normal r explains = record {
   explains = some_alike (description_in v) r.description (reached_alike v r.description normal r.reached) recording explains;
 }
 
-pub proposal_explains : (text : List ℕ) (v : Parts) (address : ℕ) (recording : List MaskedSighting) → IsNormal v → Reaches text v → IsProposal address recording text → ExplainsSome (IsExplained (description_in v)) recording
+pub proposal_explains : (text : List ℕ) (v : Parts) (address : ℕ) (recording : List MaybeSighting) → IsNormal v → Reaches text v → IsProposal address recording text → ExplainsReading (IsExplained (description_in v)) recording
 proposal_explains text v address recording normal r p =
     let alike = reached_alike v p.description normal (r.reached ∙ ap reach (one_description text r.description p.description r.of (is_of text address recording p))) in
     some_alike p.description (description_in v) (λ h e. sym (alike h e)) recording p.explains
 
-pub proposal_address : (text : List ℕ) (v : Parts) (address : ℕ) (recording : List MaskedSighting) → Reaches text v → IsProposal address recording text → v.address ≡ address
+pub proposal_address : (text : List ℕ) (v : Parts) (address : ℕ) (recording : List MaybeSighting) → Reaches text v → IsProposal address recording text → v.address ≡ address
 proposal_address text v address recording r p = ap (λ D. D.address) (r.reached ∙ ap reach (one_description text r.description p.description r.of (is_of text address recording p))) ∙ p.own
 
-pub decides : (text : List ℕ) (v : Parts) (address : ℕ) (recording : List MaskedSighting) (r : Result Bool AllocError) → is_canon_text text ≡ false → IsNormal v → Reaches text v → v.address ≡ address
-    → IfOk r (λ truth. IsTrue truth ↔ ExplainsSome (IsExplained (description_in v)) recording) → IfOk r (λ truth. IsTrue truth ↔ IsProposal address recording text)
+pub decides : (text : List ℕ) (v : Parts) (address : ℕ) (recording : List MaybeSighting) (r : Result Bool AllocError) → is_canon_text text ≡ false → IsNormal v → Reaches text v → v.address ≡ address
+    → IfOk r (λ truth. IsTrue truth ↔ ExplainsReading (IsExplained (description_in v)) recording) → IfOk r (λ truth. IsTrue truth ↔ IsProposal address recording text)
 decides text v address recording (Err e) toml normal reaches own decided = tt
 decides text v address recording (Ok truth) toml normal reaches own decided = (
   λ is. subst (λ a. IsProposal a recording text) own (proposal_of text v recording toml normal reaches (decided.0 is)),
   λ p. decided.1 (proposal_explains text v address recording normal reaches p),
 )
 
-pub refused_none : (text : List ℕ) (fault : LoadFault) (address : ℕ) (recording : List MaskedSighting) → IsNotLoaded text fault → IsProposal address recording text → fault ≡ load.Memory
+pub refused_none : (text : List ℕ) (fault : LoadFault) (address : ℕ) (recording : List MaybeSighting) → IsNotLoaded text fault → IsProposal address recording text → fault ≡ load.Memory
 refused_none text fault address recording refused p = only_memory_refuses text p.description fault (is_of text address recording p) refused
 
 pub none_of : {A : Type 0} (o : Option A) (truth : Bool) → is_some o ≡ not truth → IsTrue truth → o ≡ None

@@ -2,13 +2,13 @@
 use Rattle.std.specs.Prelude.{◌≡◌, ℕ, false, List}
 use Rattle.bus_legal.specs.Description.{Description}
 use Rattle.terminal_recordings.specs.Recordings.{IsExplained}
-use Rattle.terminal_recordings.specs.Masks.{MaskedSighting, ExplainsSome}
+use Rattle.terminal_recordings.specs.MaybeGaps.{MaybeSighting, ExplainsReading}
 use Rattle.rt1553.specs.Load.{is_canon_text, IsProfileText}
 
 -- a profile text without fault, and no canonical text, of a terminal that has this address and explains the recording
-pub record IsProposal (address : ℕ) (recording : List MaskedSighting) (text : List ℕ) : Type 0 where
+pub record IsProposal (address : ℕ) (recording : List MaybeSighting) (text : List ℕ) : Type 0 where
   pub description : Description
   pub toml : is_canon_text text ≡ false
   pub of : IsProfileText text description
   pub own : description.address ≡ address
-  pub explains : ExplainsSome (IsExplained description) recording
+  pub explains : ExplainsReading (IsExplained description) recording

@@ -2,8 +2,8 @@
 ghost use Rattle.std.specs.Prelude.{◌≡◌, ◌↔◌, IfOk, IsTrue};
 ghost use Rattle.bus_legal.specs.Parts.{description_in, IsNormal};
 ghost use Rattle.terminal_recordings.specs.Recordings.{IsExplained};
-ghost use Rattle.terminal_recordings.specs.Masks.{ExplainsSome};
-ghost use Rattle.recorded_terminal.specs.Watched.{masked_in};
+ghost use Rattle.terminal_recordings.specs.MaybeGaps.{ExplainsReading};
+ghost use Rattle.recorded_terminal.specs.Marks.{maybe_in};
 ghost use Rattle.rt1553.specs.Load.{is_canon_text};
 ghost use Rattle.inferred_profiles.specs.Proposed.{IsProposal};
 
@@ -13,14 +13,15 @@ use std::alloc::{AllocError, Global};
 
 /// Tells whether some behaviour of the subsystem makes this terminal send what was seen.
 fn is_explained(alloc: Global, normal: &Normal, recording: &[Marked]) -> Result<bool, AllocError>
-    ensures explained { IfOk result (λ truth. IsTrue truth ↔ ExplainsSome (IsExplained (description_in normal.now)) (masked_in recording.now)) }
+    ensures explained { IfOk result (λ truth. IsTrue truth ↔ ExplainsReading (IsExplained (description_in normal.now)) (maybe_in recording.now)) }
     ensures normal { IsNormal normal.now }
 {
-    let mut watch = Watch::power_up(alloc, normal.setup(), *normal);
+    let mut watch = Watch::power_up(alloc, normal.setup(), *normal)?;
     'sightings: for marked in recording {
         watch.see(*marked)?;
     }
-    Ok(watch.end().is_none())
+    let first = watch.end()?;
+    Ok(first.is_none())
 }
 
 /// Tells whether a text begins as a canonical text of either version.
@@ -37,7 +38,7 @@ pub fn is_proposal(
     recording: &[Marked],
     text: &str,
 ) -> Result<bool, AllocError>
-    ensures { IfOk result (λ truth. IsTrue truth ↔ IsProposal address (masked_in recording.now) text.now) }
+    ensures { IfOk result (λ truth. IsTrue truth ↔ IsProposal address (maybe_in recording.now) text.now) }
 {
     let bytes = text.as_bytes();
     if is_canon_text(bytes) {

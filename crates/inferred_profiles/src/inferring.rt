@@ -1,6 +1,6 @@
 //! A profile that explains a recording, by trials.
 ghost use Rattle.std.specs.Prelude.{◌≤◌, IfOk, IfSome, string_bytes};
-ghost use Rattle.recorded_terminal.specs.Watched.{masked_in};
+ghost use Rattle.recorded_terminal.specs.Marks.{maybe_in};
 ghost use Rattle.inferred_profiles.specs.Proposed.{IsProposal};
 
 use crate::asked::{Asked, asked_in};
@@ -10,7 +10,7 @@ use crate::evidence::Evidence;
 use crate::following::{GuessOutcome, outcome_of};
 use crate::guess::Guess;
 use crate::proposal::{Proposal, Unseen};
-use recorded_terminal::{Marked, Sighting, sightings_of};
+use recorded_terminal::{Marked, Sighting, maybe_gap, sightings_of};
 use std::alloc::{AllocError, Global};
 
 /// How many assumptions there are.
@@ -93,21 +93,34 @@ fn text_by(
     }
 }
 
+/// What came for certain.
+fn certain_in(alloc: Global, recording: &[Marked]) -> Result<Vec<Marked>, AllocError> {
+    let mut certain = Vec::new(alloc);
+    for marked in recording {
+        if maybe_gap(marked).is_none() {
+            certain.push(*marked)?;
+        }
+    }
+    Ok(certain)
+}
+
 /// Proposes a profile for the terminal of this address, from a recording of it that begins at power-up: a text in TOML that explains the
-/// recording, with comments that say what shows each entry. None where none of at most 18 trials finds one.
+/// recording, with comments that say what shows each entry. None where none of at most 18 trials finds one; they leave out gaps that may
+/// have come.
 pub fn infer(
     alloc: Global,
     address: u8,
     unseen: Unseen,
     recording: &[Marked],
 ) -> Result<Option<String>, AllocError>
-    ensures { IfOk result (λ found. IfSome found (λ text. IsProposal address (masked_in recording.now) (string_bytes text))) }
+    ensures { IfOk result (λ found. IfSome found (λ text. IsProposal address (maybe_in recording.now) (string_bytes text))) }
 {
     if 30 < address {
         return Ok(None);
     }
-    let sightings = sightings_of(alloc, recording)?;
-    let asked = asked_in(address, recording);
+    let certain = certain_in(alloc, recording)?;
+    let sightings = sightings_of(alloc, certain.as_slice())?;
+    let asked = asked_in(address, certain.as_slice());
     'trials: for trial in 0..ASSUMPTIONS {
         let assumed = assumed_in(unseen, trial);
         if assumed.is_tried(&asked) {
@@ -118,7 +131,7 @@ pub fn infer(
                 assumed,
                 &asked,
                 sightings.as_slice(),
-                recording,
+                certain.as_slice(),
             )? {
                 if is_proposal(alloc, address, recording, text.as_str())? {
                     return Ok(Some(text));

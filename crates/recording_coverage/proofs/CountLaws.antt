@@ -5,13 +5,12 @@ use Rattle.std.proofs.lemmas.Bool.Decides.{nat_tests}
 use Rattle.std.proofs.lemmas.List.{get_or-set_same, get_or-set_other}
 use Rattle.std.proofs.lemmas.List.Sums.{sum_by_push, sum_by-cons}
 use Rattle.std.proofs.Math.ListN.{length-set}
-use Rattle.terminal_rules.specs.History.{Ending}
 use Rattle.recording_coverage.specs.declared.coverage.Coverage.{Coverage}
 use Rattle.recording_coverage.specs.declared.outcome.MessageEnd.{MessageEnd}
 use Rattle.recording_coverage.specs.declared.outcome.MessageOutcome.{MessageOutcome}
-use Rattle.recording_coverage.specs.declared.outcome.MessageOutcome.TheVariants.{InError, Illegal, Blocked, Done}
+use Rattle.recording_coverage.specs.declared.outcome.MessageOutcome.TheVariants.{InError, Illegal, Blocked, Done, Superseded, Open}
 use Rattle.recording_coverage.specs.declared.outcome.OutcomeCounts.{OutcomeCounts}
-use Rattle.recording_coverage.specs.Endings.{end_of_message, is_same_outcome, came_to, times, saturated, counts_of}
+use Rattle.recording_coverage.specs.Endings.{is_same_outcome, came_to, times, saturated, counts_of}
 use Rattle.recording_coverage.specs.Messages.{message_number}
 use Rattle.recording_coverage.specs.Covers.{Covers, no_counts}
 use Rattle.recording_coverage.specs.inner.Counted.{with_one, with_one_at}
@@ -27,37 +26,47 @@ more p (Some m) c = cond (p m.command) (with_one m.outcome c) c
 abbrev one : Bool → ℕ
 one b = cond b 1 0
 
--- the counts of four numbers
-abbrev four : ℕ → ℕ → ℕ → ℕ → OutcomeCounts
-four a b c d = record { in_error = saturated a; illegal = saturated b; blocked = saturated c; done = saturated d }
+-- the counts of six numbers
+abbrev six : ℕ → ℕ → ℕ → ℕ → ℕ → ℕ → OutcomeCounts
+six a b c d e f = record { in_error = saturated a; illegal = saturated b; blocked = saturated c; done = saturated d; superseded = saturated e; left_open = saturated f }
 
-more_four : (p : ℕ → Bool) (m : Option MessageEnd) (a b c d : ℕ) →
-    four (a + one (came_to p InError m)) (b + one (came_to p Illegal m)) (c + one (came_to p Blocked m)) (d + one (came_to p Done m)) ≡ more p m (four a b c d)
-more_four p None a b c d = λ j. four (zero_more a j) (zero_more b j) (zero_more c j) (zero_more d j)
+more_six : (p : ℕ → Bool) (m : Option MessageEnd) (a b c d e f : ℕ) →
+    six (a + one (came_to p InError m)) (b + one (came_to p Illegal m)) (c + one (came_to p Blocked m)) (d + one (came_to p Done m)) (e + one (came_to p Superseded m)) (f + one (came_to p Open m)) ≡ more p m (six a b c d e f)
+more_six p None a b c d e f = λ j. six (zero_more a j) (zero_more b j) (zero_more c j) (zero_more d j) (zero_more e j) (zero_more f j)
   where
     zero_more : (n : ℕ) → n + 0 ≡ n
     zero_more n = omega arith
-more_four p (Some m) a b c d = by_case (p m.command) m.outcome
+more_six p (Some m) a b c d e f = by_case (p m.command) m.outcome
   where
     zero_more : (n : ℕ) → n + 0 ≡ n
     zero_more n = omega arith
 
     by_case : (t : Bool) (o : MessageOutcome) →
-        four (a + one (t && is_same_outcome InError o)) (b + one (t && is_same_outcome Illegal o)) (c + one (t && is_same_outcome Blocked o)) (d + one (t && is_same_outcome Done o))
-        ≡ cond t (with_one o (four a b c d)) (four a b c d)
-    by_case false o = λ j. four (zero_more a j) (zero_more b j) (zero_more c j) (zero_more d j)
-    by_case true InError = λ j. record { in_error = counted_more a j; illegal = saturated (zero_more b j); blocked = saturated (zero_more c j); done = saturated (zero_more d j) }
-    by_case true Illegal = λ j. record { in_error = saturated (zero_more a j); illegal = counted_more b j; blocked = saturated (zero_more c j); done = saturated (zero_more d j) }
-    by_case true Blocked = λ j. record { in_error = saturated (zero_more a j); illegal = saturated (zero_more b j); blocked = counted_more c j; done = saturated (zero_more d j) }
-    by_case true Done = λ j. record { in_error = saturated (zero_more a j); illegal = saturated (zero_more b j); blocked = saturated (zero_more c j); done = counted_more d j }
+        six (a + one (t && is_same_outcome InError o)) (b + one (t && is_same_outcome Illegal o)) (c + one (t && is_same_outcome Blocked o)) (d + one (t && is_same_outcome Done o))
+        (e + one (t && is_same_outcome Superseded o)) (f + one (t && is_same_outcome Open o))
+        ≡ cond t (with_one o (six a b c d e f)) (six a b c d e f)
+    by_case false o = λ j. six (zero_more a j) (zero_more b j) (zero_more c j) (zero_more d j) (zero_more e j) (zero_more f j)
+    by_case true InError = λ j. record { in_error = counted_more a j; illegal = saturated (zero_more b j); blocked = saturated (zero_more c j); done = saturated (zero_more d j); superseded = saturated (zero_more e j); left_open = saturated (zero_more f j) }
+    by_case true Illegal = λ j. record { in_error = saturated (zero_more a j); illegal = counted_more b j; blocked = saturated (zero_more c j); done = saturated (zero_more d j); superseded = saturated (zero_more e j); left_open = saturated (zero_more f j) }
+    by_case true Blocked = λ j. record { in_error = saturated (zero_more a j); illegal = saturated (zero_more b j); blocked = counted_more c j; done = saturated (zero_more d j); superseded = saturated (zero_more e j); left_open = saturated (zero_more f j) }
+    by_case true Done = λ j. record { in_error = saturated (zero_more a j); illegal = saturated (zero_more b j); blocked = saturated (zero_more c j); done = counted_more d j; superseded = saturated (zero_more e j); left_open = saturated (zero_more f j) }
+    by_case true Superseded = λ j. record { in_error = saturated (zero_more a j); illegal = saturated (zero_more b j); blocked = saturated (zero_more c j); done = saturated (zero_more d j); superseded = counted_more e j; left_open = saturated (zero_more f j) }
+    by_case true Open = λ j. record { in_error = saturated (zero_more a j); illegal = saturated (zero_more b j); blocked = saturated (zero_more c j); done = saturated (zero_more d j); superseded = saturated (zero_more e j); left_open = counted_more f j }
 
-times_more : (p : ℕ → Bool) (o : MessageOutcome) (ends : List Ending) (e : Ending) → times p o (ends ++ e ∷ []) ≡ times p o ends + one (came_to p o (end_of_message e))
-times_more p o ends e = sum_by_push (λ x. one (came_to p o (end_of_message x))) ends e
+times_more : (p : ℕ → Bool) (o : MessageOutcome) (ends : List (Option MessageEnd)) (e : Option MessageEnd) → times p o (ends ++ e ∷ []) ≡ times p o ends + one (came_to p o e)
+times_more p o ends e = sum_by_push (λ x. one (came_to p o x)) ends e
 
-counts_more : (p : ℕ → Bool) (ends : List Ending) (e : Ending) → counts_of p (ends ++ e ∷ []) ≡ more p (end_of_message e) (counts_of p ends)
+counts_more : (p : ℕ → Bool) (ends : List (Option MessageEnd)) (e : Option MessageEnd) → counts_of p (ends ++ e ∷ []) ≡ more p e (counts_of p ends)
 counts_more p ends e =
-    (λ j. four (times_more p InError ends e j) (times_more p Illegal ends e j) (times_more p Blocked ends e j) (times_more p Done ends e j))
-    ∙ more_four p (end_of_message e) (times p InError ends) (times p Illegal ends) (times p Blocked ends) (times p Done ends)
+    (λ j. six (times_more p InError ends e j) (times_more p Illegal ends e j) (times_more p Blocked ends e j) (times_more p Done ends e j) (times_more p Superseded ends e j) (times_more p Open ends e j))
+    ∙ more_six p e (times p InError ends) (times p Illegal ends) (times p Blocked ends) (times p Done ends) (times p Superseded ends) (times p Open ends)
+
+-- no message more
+pub covers_no_more : (ends : List (Option MessageEnd)) (c : Coverage) → Covers ends c → Covers (ends ++ None ∷ []) c
+covers_no_more ends c covers = record {
+  room = covers.room;
+  each = λ k l. let p : ℕ → Bool = λ d. message_number d == k in covers.each k l ∙ sym (counts_more p ends None);
+}
 
 -- the table after one more
 table_at : (n k : ℕ) (o : MessageOutcome) (table : List OutcomeCounts) → n < length table → get_or (with_one_at n o table) k no_counts ≡ cond (n == k) (with_one o (get_or table k no_counts)) (get_or table k no_counts)
@@ -81,8 +90,8 @@ long_still n o table = by_within (nat_lt n (length table))
     by_within true = length-set table n (with_one o (get_or table n no_counts))
     by_within false = refl
 
--- an event that ends this message
-pub covers_one : (ends : List Ending) (e : Ending) (m : MessageEnd) (n : ℕ) (old new : Coverage) → end_of_message e ≡ Some m → n ≡ message_number m.command → n < 4096
+-- this message more
+pub covers_one : (ends : List (Option MessageEnd)) (e : Option MessageEnd) (m : MessageEnd) (n : ℕ) (old new : Coverage) → e ≡ Some m → n ≡ message_number m.command → n < 4096
     → new.counts.items ≡ with_one_at n m.outcome old.counts.items → Covers ends old → Covers (ends ++ e ∷ []) new
 covers_one ends e m n old new some at few is covers = record {
   room = ap (λ t. length t) is ∙ (long_still n m.outcome old.counts.items ∙ covers.room);
@@ -97,10 +106,10 @@ covers_one ends e m n old new some at few is covers = record {
 }
 
 -- the counts of a message are those at its number
-pub counts_at : (ends : List Ending) (c : Coverage) (n : ℕ) (found : OutcomeCounts) → n < 4096 → found ≡ get_or c.counts.items n no_counts → Covers ends c → found ≡ counts_of (λ d. message_number d == n) ends
+pub counts_at : (ends : List (Option MessageEnd)) (c : Coverage) (n : ℕ) (found : OutcomeCounts) → n < 4096 → found ≡ get_or c.counts.items n no_counts → Covers ends c → found ≡ counts_of (λ d. message_number d == n) ends
 counts_at ends c n found few is covers = is ∙ covers.each n few
 
-pub counts_in : (ends : List Ending) (c : Coverage) (command n : ℕ) (found : OutcomeCounts) → n ≡ message_number command → n < 4096 → found ≡ get_or c.counts.items n no_counts → Covers ends c
+pub counts_in : (ends : List (Option MessageEnd)) (c : Coverage) (command n : ℕ) (found : OutcomeCounts) → n ≡ message_number command → n < 4096 → found ≡ get_or c.counts.items n no_counts → Covers ends c
     → found ≡ counts_of (λ d. message_number d == message_number command) ends
 counts_in ends c command n found at few is covers = counts_at ends c n found few is covers ∙ ap (λ k. counts_of (λ d. message_number d == k) ends) at
 
@@ -109,12 +118,12 @@ never : (o : MessageOutcome) (m : Option MessageEnd) → came_to (λ _. false) o
 never o None = refl
 never o (Some m) = refl
 
-no_times : (ends : List Ending) → count_by (λ (e : Ending). false) ends ≡ 0
+no_times : (ends : List (Option MessageEnd)) → count_by (λ (e : Option MessageEnd). false) ends ≡ 0
 no_times [] = refl
-no_times (e ∷ ends) = let rest = no_times ends in sum_by-cons (λ (x : Ending). cond false 1 0) e ends ∙ omega (arith, rest)
+no_times (e ∷ ends) = let rest = no_times ends in sum_by-cons (λ (x : Option MessageEnd). cond false 1 0) e ends ∙ omega (arith, rest)
 
-none_times : (p : ℕ → Bool) → ((d : ℕ) → p d ≡ false) → (o : MessageOutcome) (ends : List Ending) → times p o ends ≡ 0
-none_times p none o ends = (λ j. count_by (λ e. came_to (λ d. none d j) o (end_of_message e)) ends) ∙ ((λ j. count_by (λ e. never o (end_of_message e) j) ends) ∙ no_times ends)
+none_times : (p : ℕ → Bool) → ((d : ℕ) → p d ≡ false) → (o : MessageOutcome) (ends : List (Option MessageEnd)) → times p o ends ≡ 0
+none_times p none o ends = (λ j. count_by (came_to (λ d. none d j) o) ends) ∙ ((λ j. count_by (λ e. never o e j) ends) ∙ no_times ends)
 
-pub counts_none : (p : ℕ → Bool) → ((d : ℕ) → p d ≡ false) → (ends : List Ending) → no_counts ≡ counts_of p ends
-counts_none p none ends = λ j. four (sym (none_times p none InError ends) j) (sym (none_times p none Illegal ends) j) (sym (none_times p none Blocked ends) j) (sym (none_times p none Done ends) j)
+pub counts_none : (p : ℕ → Bool) → ((d : ℕ) → p d ≡ false) → (ends : List (Option MessageEnd)) → no_counts ≡ counts_of p ends
+counts_none p none ends = λ j. six (sym (none_times p none InError ends) j) (sym (none_times p none Illegal ends) j) (sym (none_times p none Blocked ends) j) (sym (none_times p none Done ends) j) (sym (none_times p none Superseded ends) j) (sym (none_times p none Open ends) j)

@@ -26,13 +26,15 @@ abbrev pub rows_in : List CoveredMessage → List (List CoveredMessage)
 rows_in [] = []
 rows_in (m ∷ ms) = before_rows m (rows_in ms)
 
--- how often all of them ended with each outcome
+-- how often all of them came to each outcome
 abbrev pub total_of : List CoveredMessage → OutcomeCounts
 total_of ms = record {
   in_error = saturated (sum_by (λ m. m.counts.in_error) ms);
   illegal = saturated (sum_by (λ m. m.counts.illegal) ms);
   blocked = saturated (sum_by (λ m. m.counts.blocked) ms);
   done = saturated (sum_by (λ m. m.counts.done) ms);
+  superseded = saturated (sum_by (λ m. m.counts.superseded) ms);
+  left_open = saturated (sum_by (λ m. m.counts.left_open) ms);
 }
 
 -- the message came, whatever the outcome

@@ -1,13 +1,12 @@
-//! How often each message ended with each outcome.
+//! How often each message came to each outcome.
 ghost use Rattle.std.specs.Prelude.{◌≡◌, ◌<◌};
 ghost use Rattle.bus_word.specs.Mode.{mode_row};
 ghost use Rattle.recording_coverage.specs.Messages.{message_number};
 ghost use Rattle.recording_coverage.specs.inner.CellNumbers.{row_transmits, number_by, number_of_cell};
 
-use crate::outcome::{MessageOutcome, OutcomeCounts, end_of_message, with_one};
+use crate::outcome::{MessageEnd, MessageOutcome, OutcomeCounts, with_one};
 use bus_word::{Cell, Command, is_allowed, mode_row};
 use std::alloc::{AllocError, Global};
-use terminal_state::Ended;
 
 /// How many messages have a number.
 const MESSAGES: usize = 4096;
@@ -18,6 +17,8 @@ const NONE: OutcomeCounts = OutcomeCounts {
     illegal: 0,
     blocked: 0,
     done: 0,
+    superseded: 0,
+    left_open: 0,
 };
 
 /// Gives the number of a message by its parts. The subaddress of mode codes is 0.
@@ -70,7 +71,7 @@ fn number_of_cell(cell: Cell) -> usize
     }
 }
 
-/// How often each message ended with each outcome, over some events.
+/// How often each message came to each outcome, over some events.
 #[derive(Drop)]
 pub struct Coverage {
     /// By the number of the message.
@@ -78,9 +79,8 @@ pub struct Coverage {
 }
 
 impl Coverage {
-    ghost use Rattle.std.specs.Prelude.{[], List, ℕ, ◌++◌, ◌∷◌, get_or, set, cond, IfOk};
-    ghost use Rattle.terminal_state.specs.Ended.{ending_of};
-    ghost use Rattle.terminal_rules.specs.History.{Ending};
+    ghost use Rattle.std.specs.Prelude.{[], List, Option, ◌++◌, ◌∷◌, get_or, set, cond, IfOk};
+    ghost use Rattle.recording_coverage.specs.declared.outcome.MessageEnd.{MessageEnd};
     ghost use Rattle.recording_coverage.specs.Endings.{counts_of};
     ghost use Rattle.recording_coverage.specs.Messages.{is_same_message, has_this_cell};
     ghost use Rattle.recording_coverage.specs.Covers.{Covers, no_counts};
@@ -104,11 +104,11 @@ impl Coverage {
         }
     }
 
-    /// Counts the message that one more event ends, if it ends one.
-    pub fn note(&mut self, ended: Ended)
-        ensures { (ends : List Ending) (ds : List ℕ) → Covers ends self.old → Covers (ends ++ ending_of ended ds ∷ []) self.new }
+    /// Counts one more message, if there is one.
+    pub fn note(&mut self, end: Option<MessageEnd>)
+        ensures { (ends : List (Option MessageEnd)) → Covers ends self.old → Covers (ends ++ end ∷ []) self.new }
     {
-        if let Some(end) = end_of_message(ended) {
+        if let Some(end) = end {
             self.count(message_number(end.command), end.outcome);
         }
     }
@@ -124,16 +124,16 @@ impl Coverage {
         }
     }
 
-    /// Gives how often the message that this command asks for ended with each outcome, whatever the address of the command.
+    /// Gives how often the message that this command asks for came to each outcome, whatever the address of the command.
     pub fn counts_of(&self, command: Command) -> OutcomeCounts
-        ensures { (ends : List Ending) → Covers ends self.now → result ≡ counts_of (is_same_message command) ends }
+        ensures { (ends : List (Option MessageEnd)) → Covers ends self.now → result ≡ counts_of (is_same_message command) ends }
     {
         self.at(message_number(command))
     }
 
-    /// Gives how often messages of this cell ended with each outcome.
+    /// Gives how often messages of this cell came to each outcome.
     pub fn counts_at(&self, cell: Cell) -> OutcomeCounts
-        ensures { (ends : List Ending) → Covers ends self.now → result ≡ counts_of (has_this_cell cell) ends }
+        ensures { (ends : List (Option MessageEnd)) → Covers ends self.now → result ≡ counts_of (has_this_cell cell) ends }
     {
         if is_allowed(cell) {
             self.at(number_of_cell(cell))

@@ -75,13 +75,15 @@ fn command_json(command: Command) -> MessageJson {
     data_json(message, command.subaddress(), command.count())
 }
 
-/// How often messages ended with each outcome, as JSON.
+/// How often messages came to each outcome, as JSON.
 #[derive(Clone, Copy, Drop, Serialize)]
 struct CountsJson {
     done: u64,
     busy: u64,
     illegal: u64,
     in_error: u64,
+    superseded: u64,
+    open: u64,
 }
 
 /// Gives counts as JSON.
@@ -91,6 +93,8 @@ fn counts_json(counts: OutcomeCounts) -> CountsJson {
         busy: counts.blocked,
         illegal: counts.illegal,
         in_error: counts.in_error,
+        superseded: counts.superseded,
+        open: counts.left_open,
     }
 }
 

@@ -19,7 +19,7 @@ pub use coverage::Coverage;
 pub use covering::{count_events, coverage_of};
 pub use json::coverage_json;
 pub use lines::{CoverageLine, illegal_lines, legal_lines, push_command, push_place};
-pub use outcome::OutcomeCounts;
+pub use outcome::{MessageEnd, MessageOutcome, OutcomeCounts};
 pub use places::{
     CoverageRow, come_in, done_in, has_come, message_rows, total_of, was_done, word_count_in,
     word_counts,

@@ -47,7 +47,7 @@ pub fn push_place(text: &mut String, cell: Cell) -> Result<(), AllocError>
     }
 }
 
-/// Writes how often messages ended with an outcome, if they did, behind others.
+/// Writes how often messages came to an outcome, if they did, behind others.
 fn push_outcome(
     text: &mut String,
     some: bool,
@@ -64,7 +64,7 @@ fn push_outcome(
     Ok(true)
 }
 
-/// Writes how often messages ended with each outcome, `never` if none did.
+/// Writes how often messages came to each outcome, `never` if none came.
 fn push_counts(text: &mut String, counts: OutcomeCounts) -> Result<(), AllocError> {
     if are_none(counts) {
         return text.push_str("never");
@@ -72,7 +72,9 @@ fn push_counts(text: &mut String, counts: OutcomeCounts) -> Result<(), AllocErro
     let some = push_outcome(text, false, counts.done, "done")?;
     let some = push_outcome(text, some, counts.blocked, "busy")?;
     let some = push_outcome(text, some, counts.illegal, "illegal")?;
-    push_outcome(text, some, counts.in_error, "in error")?;
+    let some = push_outcome(text, some, counts.in_error, "in error")?;
+    let some = push_outcome(text, some, counts.superseded, "superseded")?;
+    push_outcome(text, some, counts.left_open, "open")?;
     Ok(())
 }
 

@@ -77,10 +77,12 @@ fn with_counts(counts: OutcomeCounts, more: OutcomeCounts) -> OutcomeCounts
         illegal: counts.illegal.saturating_add(more.illegal),
         blocked: counts.blocked.saturating_add(more.blocked),
         done: counts.done.saturating_add(more.done),
+        superseded: counts.superseded.saturating_add(more.superseded),
+        left_open: counts.left_open.saturating_add(more.left_open),
     }
 }
 
-/// Gives how often all of these messages together ended with each outcome.
+/// Gives how often all of these messages together came to each outcome.
 pub fn total_of(messages: &[CoveredMessage]) -> OutcomeCounts
     ensures { result ≡ total_of messages.now }
 {
@@ -89,6 +91,8 @@ pub fn total_of(messages: &[CoveredMessage]) -> OutcomeCounts
         illegal: 0,
         blocked: 0,
         done: 0,
+        superseded: 0,
+        left_open: 0,
     };
     for message in messages {
         total = with_counts(total, message.counts);

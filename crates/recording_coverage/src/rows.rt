@@ -1,8 +1,8 @@
 //! What came of each legal message, and which illegal ones came.
-ghost use Rattle.std.specs.Prelude.{◌≡◌, ◌≤◌, ◌<◌, ◌++◌, ◌∷◌, [], List, IfOk, OnOk};
+ghost use Rattle.std.specs.Prelude.{◌≡◌, ◌≤◌, ◌<◌, ◌++◌, ◌∷◌, [], List, Option, IfOk, OnOk};
 ghost use Rattle.bus_word.specs.Cell.{cell_of};
 ghost use Rattle.bus_legal.specs.Parts.{description_in};
-ghost use Rattle.terminal_rules.specs.History.{Ending};
+ghost use Rattle.recording_coverage.specs.declared.outcome.MessageEnd.{MessageEnd};
 ghost use Rattle.recording_coverage.specs.Covers.{Covers};
 ghost use Rattle.recording_coverage.specs.Rows.{covered_in, covered, has_legal_cell, are_none, command_at, tried_of, tried_illegal};
 
@@ -13,14 +13,14 @@ use bus_legal::{Legality, Normal};
 use bus_word::{Cell, Command, cell_of};
 use std::alloc::{AllocError, Global};
 
-/// A legal message, and how often it ended with each outcome.
+/// A legal message, and how often it came to each outcome.
 #[derive(Clone, Copy)]
 pub struct CoveredMessage {
     pub cell: Cell,
     pub counts: OutcomeCounts,
 }
 
-/// An illegal message that came, and how often it ended with each outcome.
+/// An illegal message that came, and how often it came to each outcome.
 #[derive(Clone, Copy)]
 pub struct IllegalMessage {
     pub command: Command,
@@ -29,7 +29,7 @@ pub struct IllegalMessage {
 
 /// Gives the row of a cell.
 fn covered_message(coverage: &Coverage, cell: Cell) -> CoveredMessage
-    ensures { (ends : List Ending) → Covers ends coverage.now → result ≡ covered_in ends cell }
+    ensures { (ends : List (Option MessageEnd)) → Covers ends coverage.now → result ≡ covered_in ends cell }
 {
     CoveredMessage {
         cell,
@@ -37,14 +37,14 @@ fn covered_message(coverage: &Coverage, cell: Cell) -> CoveredMessage
     }
 }
 
-/// Gives each legal message with how often it ended with each outcome: what is received at each subaddress, what is transmitted, what
+/// Gives each legal message with how often it came to each outcome: what is received at each subaddress, what is transmitted, what
 /// is received by broadcast, and the mode codes.
 pub fn covered_messages(
     alloc: Global,
     normal: &Normal,
     coverage: &Coverage,
 ) -> Result<Vec<CoveredMessage>, AllocError>
-    ensures { IfOk result (λ rows. (ends : List Ending) → Covers ends coverage.now → rows.items ≡ covered (description_in normal.now) ends) }
+    ensures { IfOk result (λ rows. (ends : List (Option MessageEnd)) → Covers ends coverage.now → rows.items ≡ covered (description_in normal.now) ends) }
 {
     let cells = legal_cells(alloc, normal)?;
     let mut rows = Vec::new(alloc);
@@ -64,11 +64,14 @@ fn has_legal_cell(normal: &Normal, cell: Option<Cell>) -> bool
     }
 }
 
-/// Tells whether no message ended.
+/// Tells whether no message came.
 pub fn are_none(counts: OutcomeCounts) -> bool
     ensures { result ≡ are_none counts }
 {
-    counts.in_error == 0 && counts.illegal == 0 && (counts.blocked == 0 && counts.done == 0)
+    counts.in_error == 0
+        && counts.illegal == 0
+        && (counts.blocked == 0 && counts.done == 0)
+        && (counts.superseded == 0 && counts.left_open == 0)
 }
 
 /// Gives the command of this number to the terminal of an address, or to all terminals.
@@ -92,7 +95,7 @@ fn push_tried(
     coverage: &Coverage,
     command: Command,
 ) -> Result<(), AllocError>
-    ensures { OnOk result ((ends : List Ending) → Covers ends coverage.now → rows.new.items ≡ rows.old.items ++ tried_of (description_in normal.now) ends (command ∷ [])) }
+    ensures { OnOk result ((ends : List (Option MessageEnd)) → Covers ends coverage.now → rows.new.items ≡ rows.old.items ++ tried_of (description_in normal.now) ends (command ∷ [])) }
 {
     if command.subaddress() == 31 || has_legal_cell(normal, cell_of(command)) {
         return Ok(());
@@ -104,14 +107,14 @@ fn push_tried(
     Ok(())
 }
 
-/// Gives each illegal message that came with how often it ended with each outcome: those to the own address, then those by
+/// Gives each illegal message that came with how often it came to each outcome: those to the own address, then those by
 /// broadcast. A mode code is given with subaddress 0.
 pub fn illegal_messages(
     alloc: Global,
     normal: &Normal,
     coverage: &Coverage,
 ) -> Result<Vec<IllegalMessage>, AllocError>
-    ensures { IfOk result (λ rows. (ends : List Ending) → Covers ends coverage.now → rows.items ≡ tried_illegal (description_in normal.now) ends) }
+    ensures { IfOk result (λ rows. (ends : List (Option MessageEnd)) → Covers ends coverage.now → rows.items ≡ tried_illegal (description_in normal.now) ends) }
 {
     let address = normal.setup().address;
     let mut rows = Vec::new(alloc);

@@ -18,7 +18,7 @@ use Rattle.bus_script.specs.Reading.{reading, adds, nothing, then_reads}
 use Rattle.bus_script.proofs.ReadingLaws.{reading-line, adds-adds}
 use Rattle.rt1553_verify.specs.declared.stated.StatedFault.{StatedFault}
 use Rattle.rt1553_verify.specs.declared.stated.StatedFault.TheVariants.{LongLine}
-use Rattle.rt1553_verify.specs.Stated.{StatedEvent, Latest, After, silent_line, unstated_line, by_going_on, by_mask, by_answer, line_says, bounded_line, then_events, then_lines, stated_by, stated_in}
+use Rattle.rt1553_verify.specs.Stated.{StatedEvent, Latest, After, silent_line, by_early_end, unstated_line, by_going_on, by_mask, by_answer, line_says, bounded_line, then_events, then_lines, stated_by, stated_in}
 use Rattle.rt1553_verify.specs.Verify.{wrong_answers_from, by_script}
 use Rattle.rt1553_verify.proofs.StatedLaws.{stated-means, stated-line, stated-too_long}
 use Rattle.rt1553_acceptance.specs.Answered.{if_event, states_line, event_meant, meant_by, stated_behind, line_answered, lines_answered, script_answered, StatesAnswers}
@@ -35,7 +35,7 @@ use Rattle.rt1553_acceptance.proofs.PutLaws.{fit-joined}
 abbrev Kind : List ℕ → Type 0
 Kind line =
     ((states_line line ≡ true) × (meaning line ≡ Ok None))
-    ⊎ ((states_line line ≡ false) × (meaning line ≡ Ok None) × (mistyped line ≡ None))
+    ⊎ ((states_line line ≡ false) × (meaning line ≡ Ok None) × (mistyped line ≡ None) × (after (codes "#! row ") line ≡ None))
     ⊎ ((states_line line ≡ false) × ((e : Event) × (meaning line ≡ Ok (Some e))))
 
 first-states : (line rest : List ℕ) → after (codes "#> ") line ≡ Some rest → states_line line ≡ true
@@ -50,46 +50,50 @@ third-states line o other none is =
     ap (λ o. is_some o || (is_some (after (codes "#~ ") line) || is_some (after (codes "#+ ") line))) other ∙ ap (λ o. is_some o || is_some (after (codes "#+ ") line)) none ∙ ap is_some is
 
 unstated-kind : (n : ℕ) (latest : Latest) (line : List ℕ) (result : After) (said : Result (Option Event) LineFault) → states_line line ≡ false → meaning line ≡ said
-    → unstated_line n latest line said ≡ Ok result → Kind line
+    → unstated_line false n latest line said ≡ Ok result → Kind line
 unstated-kind n latest line result (Err fault) plain means e = absurd (cc)
 unstated-kind n latest line result (Ok (Some event)) plain means e = inr (inr (plain, (event, means)))
-unstated-kind n latest line result (Ok None) plain means e = by_column (mistyped line) refl e
+unstated-kind n latest line result (Ok None) plain means e = by_end (after (codes "#! row ") line) refl e
   where
-    by_column : (o : Option ℕ) → mistyped line ≡ o → silent_line n latest o ≡ Ok result → Kind line
-    by_column None typed e = inr (inl (plain, means, typed))
-    by_column (Some column) typed e = absurd (cc)
+    by_column : after (codes "#! row ") line ≡ None → (o : Option ℕ) → mistyped line ≡ o → silent_line n latest o ≡ Ok result → Kind line
+    by_column whole None typed e = inr (inl (plain, means, typed, whole))
+    by_column whole (Some column) typed e = absurd (cc)
 
-says-kind : (n : ℕ) (latest : Latest) (line : List ℕ) (result : After) → line_says n latest line ≡ Ok result → Kind line
+    by_end : (o : Option (List ℕ)) → after (codes "#! row ") line ≡ o → by_early_end n latest line o ≡ Ok result → Kind line
+    by_end None whole e = by_column whole (mistyped line) refl e
+    by_end (Some rest) early e = absurd (cc)
+
+says-kind : (n : ℕ) (latest : Latest) (line : List ℕ) (result : After) → line_says false n latest line ≡ Ok result → Kind line
 says-kind n latest line result e = first (after (codes "#> ") line) refl e
   where
-    third : after (codes "#> ") line ≡ None → after (codes "#~ ") line ≡ None → (o : Option (List ℕ)) → after (codes "#+ ") line ≡ o → by_going_on n latest line o ≡ Ok result → Kind line
+    third : after (codes "#> ") line ≡ None → after (codes "#~ ") line ≡ None → (o : Option (List ℕ)) → after (codes "#+ ") line ≡ o → by_going_on false n latest line o ≡ Ok result → Kind line
     third other none None is e = unstated-kind n latest line result (meaning line) (third-states line None other none is) refl e
     third other none (Some rest) is e = inl (third-states line (Some rest) other none is, stated-means 43 line rest is)
 
-    second : after (codes "#> ") line ≡ None → (o : Option (List ℕ)) → after (codes "#~ ") line ≡ o → by_mask n latest line o ≡ Ok result → Kind line
+    second : after (codes "#> ") line ≡ None → (o : Option (List ℕ)) → after (codes "#~ ") line ≡ o → by_mask false n latest line o ≡ Ok result → Kind line
     second other None is e = third other is (after (codes "#+ ") line) refl e
     second other (Some rest) is e = inl (second-states line rest other is, stated-means 126 line rest is)
 
-    first : (o : Option (List ℕ)) → after (codes "#> ") line ≡ o → by_answer n latest line o ≡ Ok result → Kind line
+    first : (o : Option (List ℕ)) → after (codes "#> ") line ≡ o → by_answer false n latest line o ≡ Ok result → Kind line
     first None is e = second is (after (codes "#~ ") line) refl e
     first (Some rest) is e = inl (first-states line rest is, stated-means 62 line rest is)
 
 -- a line that states no answer says what it says in any script
-plain-says : (n : ℕ) (latest : Latest) (line : List ℕ) → states_line line ≡ false → line_says n latest line ≡ unstated_line n latest line (meaning line)
+plain-says : (n : ℕ) (latest : Latest) (line : List ℕ) → states_line line ≡ false → line_says false n latest line ≡ unstated_line false n latest line (meaning line)
 plain-says n latest line plain = first (after (codes "#> ") line) refl
   where
     Plain : Result After StatedFault → Type 0
-    Plain said = said ≡ unstated_line n latest line (meaning line)
+    Plain said = said ≡ unstated_line false n latest line (meaning line)
 
-    third : after (codes "#> ") line ≡ None → after (codes "#~ ") line ≡ None → (o : Option (List ℕ)) → after (codes "#+ ") line ≡ o → Plain (by_going_on n latest line o)
+    third : after (codes "#> ") line ≡ None → after (codes "#~ ") line ≡ None → (o : Option (List ℕ)) → after (codes "#+ ") line ≡ o → Plain (by_going_on false n latest line o)
     third other none None is = refl
     third other none (Some rest) is = let states = sym (third-states line (Some rest) other none is) ∙ plain in absurd (cc)
 
-    second : after (codes "#> ") line ≡ None → (o : Option (List ℕ)) → after (codes "#~ ") line ≡ o → Plain (by_mask n latest line o)
+    second : after (codes "#> ") line ≡ None → (o : Option (List ℕ)) → after (codes "#~ ") line ≡ o → Plain (by_mask false n latest line o)
     second other None is = third other is (after (codes "#+ ") line) refl
     second other (Some rest) is = let states = sym (second-states line rest other is) ∙ plain in absurd (cc)
 
-    first : (o : Option (List ℕ)) → after (codes "#> ") line ≡ o → Plain (by_answer n latest line o)
+    first : (o : Option (List ℕ)) → after (codes "#> ") line ≡ o → Plain (by_answer false n latest line o)
     first None is = second is (after (codes "#~ ") line) refl
     first (Some rest) is = let states = sym (first-states line rest is) ∙ plain in absurd (cc)
 
@@ -101,44 +105,44 @@ AreFine : List (List ℕ) → Type 0
 AreFine [] = Unit {0}
 AreFine (line ∷ lines) = Fine line × AreFine lines
 
-bounded-fine : (n : ℕ) (latest : Latest) (line : List ℕ) (result : After) → bounded_line n latest line ≡ Ok result → Fine line
+bounded-fine : (n : ℕ) (latest : Latest) (line : List ℕ) (result : After) → bounded_line false n latest line ≡ Ok result → Fine line
 bounded-fine n latest line result e = pick (nat_lt 64 (length line)) refl e
   where
-    pick : (b : Bool) → nat_lt 64 (length line) ≡ b → (if b then Err (LongLine n) else line_says n latest line) ≡ Ok result → Fine line
+    pick : (b : Bool) → nat_lt 64 (length line) ≡ b → (if b then Err (LongLine n) else line_says false n latest line) ≡ Ok result → Fine line
     pick true is e = absurd (cc)
     pick false is e = record { short = grind (arith, nat_tests, is); kind = says-kind n latest line result e }
 
 -- all lines of a script without fault, which has at most so many
-stated-fine : (most n : ℕ) (latest : Latest) (lines : List (List ℕ)) (ss : List StatedEvent) → stated_by most n latest lines ≡ Ok ss → n ≤ most → AreFine lines × (n + length lines ≤ most)
+stated-fine : (most n : ℕ) (latest : Latest) (lines : List (List ℕ)) (ss : List StatedEvent) → stated_by false most n latest lines ≡ Ok ss → n ≤ most → AreFine lines × (n + length lines ≤ most)
 unfolding stated_by AreFine
 stated-fine most n latest [] ss e low = (tt, omega (arith, low))
 stated-fine most n latest (line ∷ lines) ss e low = ⊎_elim (few (λ latest ss is high. stated-fine most (n + 1) latest lines ss is high)) many (cases_lt n most)
   where
     Later : Type 0
-    Later = (latest : Latest) (ss : List StatedEvent) → stated_by most (n + 1) latest lines ≡ Ok ss → n + 1 ≤ most → AreFine lines × (n + 1 + length lines ≤ most)
+    Later = (latest : Latest) (ss : List StatedEvent) → stated_by false most (n + 1) latest lines ≡ Ok ss → n + 1 ≤ most → AreFine lines × (n + 1 + length lines ≤ most)
 
     Goal : Type 0
     Goal = AreFine (line ∷ lines) × (n + length (line ∷ lines) ≤ most)
 
-    later : Later → Fine line → (after : After) (said : Result (List StatedEvent) StatedFault) → stated_by most (n + 1) after.latest lines ≡ said → then_events after.events said ≡ Ok ss → n < most → Goal
+    later : Later → Fine line → (after : After) (said : Result (List StatedEvent) StatedFault) → stated_by false most (n + 1) after.latest lines ≡ said → then_events after.events said ≡ Ok ss → n < most → Goal
     later read fine after (Err fault) is e high = absurd (cc)
     later read fine after (Ok others) is e high = let rest = read after.latest others is (omega (arith, high)) in ((fine, rest.0), omega (arith, rest.1))
 
-    by_line : Later → (says : Result After StatedFault) → bounded_line (n + 1) latest line ≡ says → then_lines says (λ l. stated_by most (n + 1) l lines) ≡ Ok ss → n < most → Goal
+    by_line : Later → (says : Result After StatedFault) → bounded_line false (n + 1) latest line ≡ says → then_lines says (λ l. stated_by false most (n + 1) l lines) ≡ Ok ss → n < most → Goal
     by_line read (Err fault) is e high = absurd (cc)
-    by_line read (Ok after) is e high = later read (bounded-fine (n + 1) latest line after is) after (stated_by most (n + 1) after.latest lines) refl e high
+    by_line read (Ok after) is e high = later read (bounded-fine (n + 1) latest line after is) after (stated_by false most (n + 1) after.latest lines) refl e high
 
     few : Later → n < most → Goal
-    few read high = by_line read (bounded_line (n + 1) latest line) refl (sym (stated-line most n latest line lines high) ∙ e) high
+    few read high = by_line read (bounded_line false (n + 1) latest line) refl (sym (stated-line false most n latest line lines high) ∙ e) high
 
     many : most ≤ n → Goal
-    many high = let many = sym (stated-too_long most n latest line lines high) ∙ e in absurd (cc)
+    many high = let many = sym (stated-too_long false most n latest line lines high) ∙ e in absurd (cc)
 
 -- ---- the events are those that a run reads
 
 kind-reads : (n : ℕ) (line : List ℕ) (es : List Event) → Kind line → then_reads (meaning line) n (adds es nothing) ≡ adds (event_meant line ++ es) nothing
 kind-reads n line es (inl (states, means)) = ap (λ said. then_reads said n (adds es nothing)) means ∙ ap (λ said. adds (meant_by said ++ es) nothing) (sym means)
-kind-reads n line es (inr (inl (plain, means, typed))) = ap (λ said. then_reads said n (adds es nothing)) means ∙ ap (λ said. adds (meant_by said ++ es) nothing) (sym means)
+kind-reads n line es (inr (inl (plain, means, typed, whole))) = ap (λ said. then_reads said n (adds es nothing)) means ∙ ap (λ said. adds (meant_by said ++ es) nothing) (sym means)
 kind-reads n line es (inr (inr (plain, (e, means)))) =
     ap (λ said. then_reads said n (adds es nothing)) means ∙ adds-adds (e ∷ []) es nothing ∙ ap (λ said. adds (meant_by said ++ es) nothing) (sym means)
 
@@ -187,12 +191,12 @@ line-chain most P n h line latest few fine feeds fits = by_kind fine.kind
     by_kind : Kind line → Chained most P n h (line_answered P h line) latest (event_meant line) (n + 5)
     by_kind (inl (states, means)) =
         of [] [] (ap (λ b. if b then [] else line ++ 10 ∷ stated_behind P h (event_meant line)) states) (ap meant_by means) (n, latest, Chain-nil most P n h latest, omega arith)
-    by_kind (inr (inl (plain, means, typed))) =
+    by_kind (inr (inl (plain, means, typed, whole))) =
         of (line ++ 10 ∷ []) [] (plain-text plain [] (ap meant_by means)) (ap meant_by means) (
           n + 1,
           latest,
           silent_said most P n h line latest (omega (arith, few)) fine.short feeds
-              (plain-says (n + 1) latest line plain ∙ ap (unstated_line (n + 1) latest line) means ∙ ap (silent_line (n + 1) latest) typed),
+              (plain-says (n + 1) latest line plain ∙ ap (unstated_line false (n + 1) latest line) means ∙ ap (by_early_end (n + 1) latest line) whole ∙ ap (silent_line (n + 1) latest) typed),
           omega arith,
         )
     by_kind (inr (inr (plain, (e, means)))) =
@@ -279,15 +283,15 @@ left-all (b ∷ rest) none i = absurd (omega (arith, none))
 -- ---- the script with its answers
 
 -- as long as there is room for all lines, it is one whether there is more
-stated-room : (m k n : ℕ) (latest : Latest) (lines : List (List ℕ)) → n + length lines ≤ m → n + length lines ≤ k → stated_by m n latest lines ≡ stated_by k n latest lines
+stated-room : (m k n : ℕ) (latest : Latest) (lines : List (List ℕ)) → n + length lines ≤ m → n + length lines ≤ k → stated_by false m n latest lines ≡ stated_by false k n latest lines
 unfolding stated_by
 stated-room m k n latest [] low high = refl
 stated-room m k n latest (line ∷ lines) low high =
-    stated-line m n latest line lines (omega (arith, low)) ∙ on (bounded_line (n + 1) latest line) (λ l. stated-room m k (n + 1) l lines (omega (arith, low)) (omega (arith, high)))
-    ∙ sym (stated-line k n latest line lines (omega (arith, high)))
+    stated-line false m n latest line lines (omega (arith, low)) ∙ on (bounded_line false (n + 1) latest line) (λ l. stated-room m k (n + 1) l lines (omega (arith, low)) (omega (arith, high)))
+    ∙ sym (stated-line false k n latest line lines (omega (arith, high)))
   where
-    on : (says : Result After StatedFault) → ((l : Latest) → stated_by m (n + 1) l lines ≡ stated_by k (n + 1) l lines)
-        → then_lines says (λ l. stated_by m (n + 1) l lines) ≡ then_lines says (λ l. stated_by k (n + 1) l lines)
+    on : (says : Result After StatedFault) → ((l : Latest) → stated_by false m (n + 1) l lines ≡ stated_by false k (n + 1) l lines)
+        → then_lines says (λ l. stated_by false m (n + 1) l lines) ≡ then_lines says (λ l. stated_by false k (n + 1) l lines)
     on (Err fault) same = refl
     on (Ok after) same = ap (then_events after.events) (same after.latest)
 
@@ -300,7 +304,7 @@ answers-law P script text before accepted fits is few =
     let told = lines-chain most P 0 [] lines None (omega arith) fine.0 (text-lines script) fits in
     let chain = told.2 in
     let reads : stated_in text ≡ Ok chain.stated =
-    stated-room 1048576 most 0 None (lines_of text) (omega (arith, few)) (omega (arith, few)) ∙ ap (λ bytes. stated_by most 0 None (lines_of bytes)) is ∙ Tells-all (chain.tells refl) (chain.gives refl) ∙ ap Ok chain.splits in
+    stated-room 1048576 most 0 None (lines_of text) (omega (arith, few)) (omega (arith, few)) ∙ ap (λ bytes. stated_by false most 0 None (lines_of bytes)) is ∙ Tells-all (chain.tells refl) (chain.gives refl) ∙ ap Ok chain.splits in
     record {
       is = is;
       before = before;

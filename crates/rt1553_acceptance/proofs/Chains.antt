@@ -52,21 +52,21 @@ IsGiven latest = all_stated latest ≡ Ok (ended latest)
 
 -- a line that means an event says that event, whatever is the latest
 says-event : (n : ℕ) (latest : Latest) (line : List ℕ) (e : Event) → meaning line ≡ Ok (Some e) → IsGiven latest
-    → line_says n latest line ≡ Ok (record { events = ended latest; latest = Some (record { line = n; event = e; matching = Exact; answer_line = 0; answer = [] }) })
+    → line_says false n latest line ≡ Ok (record { events = ended latest; latest = Some (record { line = n; event = e; matching = Exact; answer_line = 0; answer = [] }) })
 says-event n latest line e means given = first (after (codes "#> ") line) refl
   where
     Said : Result After StatedFault → Type 0
     Said said = said ≡ Ok (record { events = ended latest; latest = Some (record { line = n; event = e; matching = Exact; answer_line = 0; answer = [] }) })
 
-    third : (o : Option (List ℕ)) → after (codes "#+ ") line ≡ o → Said (by_going_on n latest line o)
-    third None is = ap (unstated_line n latest line) means ∙ ap (then_event n e) given
+    third : (o : Option (List ℕ)) → after (codes "#+ ") line ≡ o → Said (by_going_on false n latest line o)
+    third None is = ap (unstated_line false n latest line) means ∙ ap (then_event n e Exact) given
     third (Some rest) is = let no = sym (stated-means 43 line rest is) ∙ means in absurd (cc)
 
-    second : (o : Option (List ℕ)) → after (codes "#~ ") line ≡ o → Said (by_mask n latest line o)
+    second : (o : Option (List ℕ)) → after (codes "#~ ") line ≡ o → Said (by_mask false n latest line o)
     second None is = third (after (codes "#+ ") line) refl
     second (Some mask) is = let no = sym (stated-means 126 line mask is) ∙ means in absurd (cc)
 
-    first : (o : Option (List ℕ)) → after (codes "#> ") line ≡ o → Said (by_answer n latest line o)
+    first : (o : Option (List ℕ)) → after (codes "#> ") line ≡ o → Said (by_answer false n latest line o)
     first None is = second (after (codes "#~ ") line) refl
     first (Some rest) is = let no = sym (stated-means 62 line rest is) ∙ means in absurd (cc)
 
@@ -119,7 +119,7 @@ IsTold most n k e o = (m : ℕ) × Tells most n m (answer_stated o) (Some (unans
 
 -- a line that states an answer that the event can have
 states-line : (n k : ℕ) (e : Event) (line : List ℕ) → can_answer e line ≡ true → IsRead line
-    → line_says n (Some (unanswered k e)) (codes "#> " ++ line) ≡ Ok (stays (Some (answered (told_on n k e) line)))
+    → line_says false n (Some (unanswered k e)) (codes "#> " ++ line) ≡ Ok (stays (Some (answered (told_on n k e) line)))
 states-line n k e line can small = ap (λ text. or_misplaced n (states n Exact (Some (unanswered k e)) text)) small ∙ ap (λ b. or_misplaced n (if b then Some (answered (told_on n k e) line) else None)) can
 
 -- an answer of one line
@@ -330,7 +330,7 @@ label-front P c = by (is_broadcast c)
 
 -- a line that says nothing
 pub silent_said : (most : ℕ) (P : Description) (n : ℕ) (h : List Event) (line : List ℕ) (latest : Latest) → n < most → length line ≤ 64 → NoLineFeed line
-    → line_says (n + 1) latest line ≡ Ok (stays latest) → Chain most P n (n + 1) h (line ++ 10 ∷ []) latest latest []
+    → line_says false (n + 1) latest line ≡ Ok (stays latest) → Chain most P n (n + 1) h (line ++ 10 ∷ []) latest latest []
 silent_said most P n h line latest few short feeds says = record {
   said = [];
   stated = [];

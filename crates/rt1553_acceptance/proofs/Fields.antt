@@ -16,7 +16,7 @@ answered s answer = record s { answer = answer }
 
 -- the line that begins with `front` says, by what follows, that the event's answer is `base` with that behind it
 abbrev pub Adds : ℕ → Latest → StatedEvent → List ℕ → List ℕ → Type 0
-Adds n latest s front base = (more : List ℕ) → IsSmall more → line_says n latest (front ++ more) ≡ Ok (stays (Some (answered s (base ++ more))))
+Adds n latest s front base = (more : List ℕ) → IsSmall more → line_says false n latest (front ++ more) ≡ Ok (stays (Some (answered s (base ++ more))))
 
 -- the words are read by these lines
 abbrev pub AreAdded : ℕ → ℕ → List ℕ → Latest → StatedEvent → List ℕ → ℕ → Type 0
@@ -24,7 +24,7 @@ AreAdded most n text latest s answer high = (m : ℕ) × Tells most n m text lat
 
 -- a line that goes on with a word
 goes_on-by : (n : ℕ) (s : StatedEvent) (base front more : List ℕ) → says_bytes s.matching ≡ true → is_empty base ≡ false → IsSmall (front ++ more)
-    → line_says n (Some (answered s base)) (codes "#+ " ++ (front ++ more)) ≡ Ok (stays (Some (answered s (base ++ 32 ∷ (front ++ more)))))
+    → line_says false n (Some (answered s base)) (codes "#+ " ++ (front ++ more)) ≡ Ok (stays (Some (answered s (base ++ 32 ∷ (front ++ more)))))
 goes_on-by n s base front more bytes some small =
     ap (λ rest. or_misplaced n (goes_on (Some (answered s base)) rest)) small
     ∙ ap (λ b. or_misplaced n (if not b && says_bytes s.matching then Some (answered s (base ++ 32 ∷ (front ++ more))) else None)) some
@@ -48,14 +48,14 @@ unfolding fields_stated
 fields-added most n room [] front base latest s bytes feeds long low some few adds = (
   n + 1,
   Tells-line most n front latest (Some (answered s (base ++ []))) [] (omega (arith, few)) (omega (arith, long)) feeds
-      (ap (line_says (n + 1) latest) (sym (append-nil front)) ∙ adds [] refl),
+      (ap (line_says false (n + 1) latest) (sym (append-nil front)) ∙ adds [] refl),
   omega arith,
 )
 fields-added most n (suc room) (w ∷ words) front base latest s bytes feeds long low some few adds =
     let front' : List ℕ = front ++ word_field w in
     let base' : List ℕ = base ++ word_field w in
     let adds' : Adds (n + 1) latest s front' base' = λ more small.
-    ap (line_says (n + 1) latest) (append_assoc front (word_field w) more) ∙ adds (word_field w ++ more) (small-append (word_field w) more (small-field w) small)
+    ap (line_says false (n + 1) latest) (append_assoc front (word_field w) more) ∙ adds (word_field w ++ more) (small-append (word_field w) more (small-field w) small)
     ∙ ap (λ answer. Ok (stays (Some (answered s answer)))) (sym (append_assoc base (word_field w) more)) in
     let p = fields-added most n room words front' base' latest s bytes (feeds-append front (word_field w) feeds (feeds-field w))
     (omega (arith, long, length-append front (word_field w), four_digits w)) (omega (arith, low)) (some-append base (word_field w) some) (omega (arith, few, low)) adds' in (
@@ -69,7 +69,7 @@ fields-added most n zero (w ∷ words) front base latest s bytes feeds long low 
     let base' : List ℕ = base ++ word_field w in
     let ends : Tells most n (n + 1) (front ++ 10 ∷ []) latest (Some (answered s base)) [] =
     Tells-line most n front latest (Some (answered s base)) [] (omega (arith, few)) (omega (arith, long)) feeds
-    (ap (line_says (n + 1) latest) (sym (append-nil front)) ∙ adds [] refl ∙ ap (λ answer. Ok (stays (Some (answered s answer)))) (append-nil base)) in
+    (ap (line_says false (n + 1) latest) (sym (append-nil front)) ∙ adds [] refl ∙ ap (λ answer. Ok (stays (Some (answered s answer)))) (append-nil base)) in
     let adds' : Adds (n + 1 + 1) (Some (answered s base)) s front' base' = λ more small.
     goes_on-by (n + 1 + 1) s base (digits_of w) more bytes some (small-append (digits_of w) more (small-digits w) small) ∙ ap (λ answer. Ok (stays (Some (answered s answer)))) (sym (append_assoc base (word_field w) more)) in
     let p = fields-added most (n + 1) 11 words front' base' (Some (answered s base)) s bytes (feeds-append (codes "#+ ") (digits_of w) feeds-lead (feeds-digits w))

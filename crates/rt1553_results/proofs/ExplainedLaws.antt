@@ -14,7 +14,7 @@ use Rattle.recorded_terminal.specs.declared.watch.Marked.{Marked}
 use Rattle.recorded_terminal.specs.declared.watch.Unexplained.{Unexplained}
 use Rattle.recorded_terminal.specs.SentWords.{word_shown}
 use Rattle.recorded_terminal.specs.Sightings.{shown_sighting}
-use Rattle.recorded_terminal.specs.Watched.{seen_in}
+use Rattle.recorded_terminal.specs.Marks.{plainly}
 use Rattle.rt1553_results.specs.declared.explaining.UnexplainedReply.{UnexplainedReply}
 use Rattle.rt1553_results.specs.declared.explaining.ResultsExplained.{ResultsExplained}
 use Rattle.rt1553_results.specs.Recorded.{replied, exchange_seen, recorded_replies, seen_slot}
@@ -31,7 +31,7 @@ use Rattle.rt1553_results.proofs.RepliedLaws.{replied_at}
 use Rattle.rt1553_results.proofs.WholeLaws.{IsFirstWhole}
 
 -- what a watch has seen is the recording of the results
-seen_all : (ms : List Marked) (D : Description) (came : ℕ → Option (List ℕ)) → map placed_in ms ≡ placed_from 1 (replied D came) → seen_in ms ≡ recorded_replies (replied D came)
+seen_all : (ms : List Marked) (D : Description) (came : ℕ → Option (List ℕ)) → map placed_in ms ≡ placed_from 1 (replied D came) → plainly ms ≡ recorded_replies (replied D came)
 seen_all ms D came all = seen_marked ms ∙ ap seen_of all ∙ seen_from 1 (replied D came)
 
 -- what is told is the first reply that nothing explains
@@ -49,10 +49,10 @@ first_told D P came ms it told small reached few all i tells =
 
     by_place : IsQuiet (placed_in it.marked) ⊎ InReply 1 (replied D came) (map placed_in i.before) (placed_in it.marked) → IsFirstUnexplainedReply P (replied D came) told
     by_place (inl (silent, quiet)) =
-        absurd (i.unexplained (explained_quiet D (seen_in i.before) s (is_sighting s it.marked.sighting.seen it.marked.sighting.bits) silent quiet i.explained))
+        absurd (i.unexplained (explained_quiet D (plainly i.before) s (is_sighting s it.marked.sighting.seen it.marked.sighting.bits) silent quiet i.explained))
     by_place (inr f) = (
-        let front : seen_in i.before ≡ recorded_replies f.before ++ exchange_seen f.replied.exchange f.sent = seen_marked i.before ∙ f.front_is in
-        let more : (o : Option Sending) → recorded_replies f.before ++ exchange_seen f.replied.exchange (f.sent ++ o ∷ []) ≡ seen_in i.before ++ seen_slot o ∷ [] =
+        let front : plainly i.before ≡ recorded_replies f.before ++ exchange_seen f.replied.exchange f.sent = seen_marked i.before ∙ f.front_is in
+        let more : (o : Option Sending) → recorded_replies f.before ++ exchange_seen f.replied.exchange (f.sent ++ o ∷ []) ≡ plainly i.before ++ seen_slot o ∷ [] =
         (λ o. ap (λ xs. recorded_replies f.before ++ xs) (exchange_more f.replied.exchange f.sent o)
         ∙ sym (append_assoc (recorded_replies f.before) (exchange_seen f.replied.exchange f.sent) (seen_slot o ∷ []))
         ∙ ap (λ xs. xs ++ seen_slot o ∷ []) (sym front)) in
@@ -76,11 +76,11 @@ first_told D P came ms it told small reached few all i tells =
           slot = place.1;
           explained = (both (recorded_replies f.before ++ exchange_seen f.replied.exchange f.sent)).0 (subst (IsExplained D) front i.explained);
           unexplained = λ x. i.unexplained
-              (subst (IsExplained D) (more f.seen ∙ ap (λ x. seen_in i.before ++ x ∷ []) (sym here))
+              (subst (IsExplained D) (more f.seen ∙ ap (λ x. plainly i.before ++ x ∷ []) (sym here))
               ((both (recorded_replies f.before ++ exchange_seen f.replied.exchange (f.sent ++ f.seen ∷ []))).1 x));
           possible = subst (λ o. IsExplained P (recorded_replies f.before ++ exchange_seen f.replied.exchange (f.sent ++ o ∷ []))) (ap word_shown (sym tells.possible))
               ((both (recorded_replies f.before ++ exchange_seen f.replied.exchange (f.sent ++ word_shown it.sent ∷ []))).0
-              (subst (IsExplained D) (ap (λ (x : Sighting). seen_in i.before ++ record { event = x.event; sent = word_shown it.sent } ∷ []) here ∙ sym (more (word_shown it.sent))) i.possible));
+              (subst (IsExplained D) (ap (λ (x : Sighting). plainly i.before ++ record { event = x.event; sent = word_shown it.sent } ∷ []) here ∙ sym (more (word_shown it.sent))) i.possible));
         })
 
 none_first : (D : Description) (came : ℕ → Option (List ℕ)) (first : Option Unexplained) (told : Option UnexplainedReply) → TellsUnexplainedReply D came first told → told ≡ None → first ≡ None
@@ -103,7 +103,7 @@ some_told D P came ms (Some first) (Some it) small reached few all i tells = fir
 
 -- what comes of a watch that has seen results
 pub explains : (D P : Description) (came : ℕ → Option (List ℕ)) (ms : List Marked) (first : Option Unexplained) (it : ResultsExplained) → D.address ≤ 30 → D ≡ reach P → length (tried D) < 2 ^ 32
-    → map placed_in ms ≡ placed_from 1 (replied D came) → (first ≡ None) ↔ IsExplained D (seen_in ms) → IfSome first (IsFirstWhole D ms) → TellsUnexplainedReply D came first it.first
+    → map placed_in ms ≡ placed_from 1 (replied D came) → (first ≡ None) ↔ IsExplained D (plainly ms) → IfSome first (IsFirstWhole D ms) → TellsUnexplainedReply D came first it.first
     → ExplainsResults D P came it
 explains D P came ms first it small reached few all decided i tells =
     let reach_of = explained_reached D P small reached (recorded_replies (replied D came)) in

@@ -16,7 +16,7 @@ use Rattle.terminal_recordings.proofs.Follows.{unsent}
 use Rattle.terminal_recordings.proofs.Law.{proper_join}
 use Rattle.terminal_recordings.proofs.Told.{sightings_more}
 use Rattle.recorded_terminal.specs.declared.watch.Marked.{Marked}
-use Rattle.recorded_terminal.specs.Watched.{seen_in}
+use Rattle.recorded_terminal.specs.Marks.{plainly}
 use Rattle.rt1553_results.specs.Recorded.{Replied, slots_of, seen_silent, seen_slot, events_to_gap, exchange_seen, recorded_replies}
 use Rattle.rt1553_results.specs.inner.Placed.{PlacedSighting, placed_in, line_of_slot, placed_slots, placed_events, placed_exchange, placed_from}
 
@@ -25,7 +25,7 @@ use Rattle.rt1553_results.specs.inner.Placed.{PlacedSighting, placed_in, line_of
 abbrev pub seen_of : List PlacedSighting → List Sighting
 seen_of = map (λ p. p.sighting)
 
-pub seen_marked : (ms : List Marked) → seen_in ms ≡ seen_of (map placed_in ms)
+pub seen_marked : (ms : List Marked) → plainly ms ≡ seen_of (map placed_in ms)
 seen_marked [] = refl
 seen_marked (m ∷ ms) = ap (λ xs. (placed_in m).sighting ∷ xs) (seen_marked ms)
 

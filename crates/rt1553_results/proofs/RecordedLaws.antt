@@ -30,12 +30,12 @@ sees_none w D before all = subst (λ xs. WatchesAll D xs w) (sym (append-nil bef
 pub sees_more : (xs ys : List PlacedSighting) (u v w : Watch Parts) → Sees xs u v → Sees ys v w → Sees (xs ++ ys) u w
 sees_more xs ys u v w a b D before all = subst (λ zs. WatchesAll D zs w) (append_assoc before xs ys) (b D (before ++ xs) (a D before all))
 
-whole_more : (ms : List Marked) (m : Marked) → NoneIsOpen ms → m.any_word ≡ false → NoneIsOpen (ms ++ m ∷ [])
+whole_more : (ms : List Marked) (m : Marked) → NoneIsOpen ms → (m.any_word ≡ false) × (m.is_maybe ≡ false) → NoneIsOpen (ms ++ m ∷ [])
 whole_more [] m are whole = (whole, tt)
 whole_more (x ∷ ms) m are whole = (are.0, whole_more ms m are.1 whole)
 
 pub sees_one : (m : Marked) (at : ReplyPlace) (e : Event) (sent : Option Sending) (old new : Watch Parts)
-    → m.sighting.event ≡ e → word_shown m.sighting.sent ≡ sent → is_seen e ≡ true → m.line ≡ line_of_slot at.number at.slot → m.command ≡ Some at.command → m.any_word ≡ false
+    → m.sighting.event ≡ e → word_shown m.sighting.sent ≡ sent → is_seen e ≡ true → m.line ≡ line_of_slot at.number at.slot → m.command ≡ Some at.command → (m.any_word ≡ false) × (m.is_maybe ≡ false)
     → ((D : Description) (h : List Event) (ms : List Marked) → Watches (λ normal. tables_say normal.tables) D h ms old → Watches (λ normal. tables_say normal.tables) D h (ms ++ m ∷ []) new)
     → Sees (placed_event at e sent) old new
 sees_one m at e sent old new is_event is_sent seen is_line is_command whole more D before (ms, all, are, w) = (

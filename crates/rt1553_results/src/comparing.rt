@@ -12,6 +12,7 @@ use crate::results::Results;
 use crate::rows::Rows;
 use bus_legal::Normal;
 use csv_rows::CellPlace;
+use recorded_terminal::WatchFault;
 use rt1553_acceptance::label_of;
 use rt1553_verify::{NumberRange, WrongReply};
 use std::alloc::{AllocError, Global};
@@ -35,6 +36,15 @@ impl From<AllocError> for CompareFault {
     ghost from_gives = { λ _ fault. fault ≡ Memory };
 
     fn from(_error: AllocError) -> CompareFault {
+        CompareFault::Memory
+    }
+}
+
+/// Results have no gap that may have come or not, so a watch of them never has too many ways.
+impl From<WatchFault> for CompareFault {
+    ghost from_gives = { λ _ fault. fault ≡ Memory };
+
+    fn from(_fault: WatchFault) -> CompareFault {
         CompareFault::Memory
     }
 }

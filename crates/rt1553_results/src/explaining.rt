@@ -184,10 +184,10 @@ pub fn explain_results(
     if let Some(line) = beyond(results, total) {
         return Err(CompareFault::Beyond(line));
     }
-    let watch = watch_results(alloc, normal, results)?;
+    let unexplained = watch_results(alloc, normal, results)?.end()?;
     Ok(ResultsExplained {
         total,
         missing,
-        first: first_told(normal, results, watch.end()),
+        first: first_told(normal, results, unexplained),
     })
 }

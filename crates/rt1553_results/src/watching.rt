@@ -43,12 +43,16 @@ fn see(
 {
     let line = u64::from(at.slot) * SLOT_LINES + u64::from(at.number);
     match Sighting::of(event, sent) {
-        Some(sighting) => watch.see(Marked {
-            sighting,
-            line,
-            command: Some(at.command),
-            any_word: false,
-        }),
+        Some(sighting) => {
+            watch.see(Marked {
+                sighting,
+                line,
+                command: Some(at.command),
+                any_word: false,
+                is_maybe: false,
+            })?;
+            Ok(())
+        }
         None => Ok(()),
     }
 }
@@ -144,7 +148,7 @@ pub fn watch_results(
     ensures { IfOk result (WatchesAll (description_in normal.now) (placed_from 1 (replied (description_in normal.now) (answer results.now)))) }
 {
     let mut exchanges = Exchanges::new(normal);
-    let mut watch = Watch::power_up(alloc, normal.setup(), *normal);
+    let mut watch = Watch::power_up(alloc, normal.setup(), *normal)?;
     while let Some(exchange) = exchanges.next() {
         let number = exchanges.given();
         let Some(reply) = results.reply(number) else {

@@ -1,27 +1,34 @@
 -- Laws of what is explained, of terminals that answer alike.
-use Rattle.std.proofs.Common.{◌≡◌, ◌∙◌, ◌↔◌, ◌≤◌, ℕ, Option, Some, None, IfSome, Ok, List, [], ◌∷◌, ◌++◌, refl, sym, ap, subst}
+use Rattle.std.proofs.Common.{◌≡◌, ◌∙◌, ◌↔◌, ◌≤◌, ◌⊎◌, inl, inr, ⊎_elim, ℕ, Bool, true, false, Option, Some, None, IfSome, Ok, List, [], ◌∷◌, ◌++◌, map, refl, sym, ap, subst}
+use Rattle.bus_word.specs.declared.word.Bus.{Bus}
 use Rattle.bus_legal.specs.Description.{Description}
 use Rattle.terminal_rules.specs.declared.event.Event.{Event}
+use Rattle.terminal_rules.specs.declared.event.Event.TheVariants as event
 use Rattle.terminal_rules.specs.Same.{AreProper}
-use Rattle.terminal_recordings.specs.Recordings.{Sighting, seen_then, sightings, sightings_from, IsExplained, IsRecording}
+use Rattle.terminal_recordings.specs.Recordings.{Sighting, seen_then, sightings, sightings_from, IsExplained}
 use Rattle.terminal_recordings.specs.Completion.{shown_of}
-use Rattle.terminal_recordings.specs.Masks.{MaskedSighting, FitsMasked, unmasked, ExplainsSome}
+use Rattle.terminal_recordings.specs.Masks.{MaskedSighting, FitsMasked, ExplainsSome}
+use Rattle.terminal_recordings.specs.MaybeGaps.{MaybeSighting, Seen, MaybeGap, ExplainsReading, certain}
 use Rattle.terminal_recordings.proofs.MaskLaw.{mask_law}
-use Rattle.recorded_terminal.proofs.WatchLaws.{masked_append}
+use Rattle.recorded_terminal.proofs.WayLaws.{maybe_append, are_recording, certain_recording}
 use Rattle.script_lines.specs.EventLine.{script_text}
 use Rattle.rt1553.proofs.EngineLaws.{AnswersAlike}
 use Rattle.recorded_terminal.specs.declared.watch.Marked.{Marked}
 use Rattle.recorded_terminal.specs.declared.watch.Unexplained.{Unexplained}
 use Rattle.recorded_terminal.specs.SentWords.{word_shown}
-use Rattle.recorded_terminal.specs.Watched.{masked, masked_in, IsUnexplainedBy}
-use Rattle.recorded_terminal.specs.Watched as watched
+use Rattle.recorded_terminal.specs.Marks.{masked, masked_in, maybe, maybe_of, maybe_in, seen_in, IsSeen}
+use Rattle.recorded_terminal.specs.Watched.{IsUnexplainedBy, IsDecidedAt}
+use Rattle.rt1553_verify.specs.declared.stated.ScriptWarning.{ScriptWarning}
 use Rattle.rt1553_verify.specs.Stated.{StatedEvent}
 use Rattle.rt1553_verify.specs.Verify.{ToldAnswer, told_answer}
 use Rattle.script_recordings.specs.declared.explaining.UnexplainedLine.{UnexplainedLine}
-use Rattle.script_recordings.specs.Seen.{StatesRecording}
-use Rattle.script_recordings.specs.Explained.{told_at, with_other, IsFirstUnexplainedBy, IsFirstUnexplained, IsWitness}
+use Rattle.script_recordings.specs.Seen.{IsToldAs, StatesRecording, recorded_warning}
+use Rattle.script_recordings.specs.Explained.{told_at, with_other, IsFirstUnexplainedBy, IsFirstUnexplained, PlaysCertain, IsWitness}
 use Rattle.script_recordings.specs.inner.Reads.{Left, NextSeen, TellsUnexplained}
-use Rattle.script_recordings.proofs.ReadLaws.{AreMarkedAs, are_seen, Split, split, ReadSoFar, read_all}
+use Rattle.script_recordings.specs.inner.Plays.{PlaysSeen}
+use Rattle.script_recordings.specs.inner.Settled.{IsSettled}
+use Rattle.script_recordings.proofs.SettleLaws.{left_open, all_seen}
+use Rattle.script_recordings.proofs.ReadLaws.{AreMarkedAs, are_told, Split, split, ReadSoFar, read_all}
 
 pub sightings_alike : (P Q : Description) → AnswersAlike P Q → (h es : List Event) → sightings_from P h es ≡ sightings_from Q h es
 sightings_alike P Q alike h [] = refl
@@ -31,28 +38,56 @@ sightings_alike P Q alike h (e ∷ es) = λ j. seen_then e (alike h e j) (sighti
 pub some_alike : {E F : List Sighting → Type 0} → ((xs : List Sighting) → E xs → F xs) → (ms : List MaskedSighting) → ExplainsSome E ms → ExplainsSome F ms
 some_alike to ms (recording, fits, x) = (recording, fits, to recording x)
 
+-- and one of the readings
+pub reading_alike : {E F : List Sighting → Type 0} → ((xs : List Sighting) → E xs → F xs) → (ms : List MaybeSighting) → ExplainsReading E ms → ExplainsReading F ms
+reading_alike to ms (recording, reads, x) = (recording, reads, some_alike to recording x)
+
 pub explained_alike : (P Q : Description) → AnswersAlike P Q → (recording : List Sighting) → IsExplained P recording → IsExplained Q recording
 explained_alike P Q alike recording (es, proper, seen) = (es, proper, sym (sightings_alike P Q alike [] es) ∙ seen)
+
+pub seen_or_open : (m : Marked) → IsSeen m ⊎ ((bus : Bus) × (maybe m ≡ MaybeGap bus))
+seen_or_open m = by m.sighting.event m.is_maybe
+  where
+    by : (e : Event) (q : Bool) → (maybe_of e q (masked m) ≡ Seen (masked m)) ⊎ ((bus : Bus) × (maybe_of e q (masked m) ≡ MaybeGap bus))
+    by (event.Gap b) true = inr (b, refl)
+    by (event.Gap b) false = inl refl
+    by (event.Word b w) q = inl refl
+    by (event.Noise b) q = inl refl
+    by (event.Write p v) q = inl refl
+    by (event.Vector v) q = inl refl
+    by (event.Bit v) q = inl refl
+    by (event.Flag f v) q = inl refl
+    by event.Slot q = inl refl
+
+-- so what nothing explains was seen
+unexplained_seen : (E : List Sighting → Type 0) (before : List Marked) (m : Marked) → ExplainsReading E (maybe_in before) → (ExplainsReading E (maybe_in (before ++ m ∷ [])) → ⊥) → IsSeen m
+unexplained_seen E before m (recording, reads, x) none = ⊎_elim
+    (λ is. is)
+    (λ (bus, is). absurd (none (subst (ExplainsReading E) (sym (maybe_append before (m ∷ []) ∙ ap (λ y. maybe_in before ++ y ∷ []) is)) (recording, left_open (maybe_in before) bus recording reads, x))))
+    (seen_or_open m)
 
 -- what is told is the first that is unexplained, also by another word for it
 pub first_told : {E F : List Sighting → Type 0} → ((xs : List Sighting) → E xs → F xs) → ((xs : List Sighting) → F xs → E xs) → (ss : List StatedEvent) (ms : List Marked) (it : Unexplained) (told : ToldAnswer)
     → AreMarkedAs ss ms → told ≡ told_at it.marked.line (masked it.marked) (word_shown it.sent) → IsUnexplainedBy E ms it → IsFirstUnexplainedBy F ss told
 first_told {E = E} {F = F} to back ss ms it told are is i =
-    let c : Split ss i.before it.marked i.later = split ss i.before it.marked i.later (subst (λ (l : List Marked). AreMarkedAs ss l) i.all are) in
+    let m : Marked = it.marked in
+    let c : Split ss i.before m i.later = split ss i.before m i.later (subst (λ (l : List Marked). AreMarkedAs ss l) i.all are) in
+    let seen : IsSeen m = unexplained_seen E i.before m i.explained i.unexplained in
+    let here : maybe_in i.before ++ Seen (masked m) ∷ [] ≡ maybe_in (i.before ++ m ∷ []) = sym (maybe_append i.before (m ∷ []) ∙ ap (λ y. maybe_in i.before ++ y ∷ []) seen) in
     record {
       front = c.front;
       stated = c.stated;
       rest = c.rest;
       all = c.all;
-      before = masked_in i.before;
-      sighting = masked it.marked;
+      before = maybe_in i.before;
+      sighting = masked m;
       other = word_shown it.sent;
-      are_seen = are_seen c.front i.before c.are;
-      is_seen = c.is.0;
-      explained = some_alike to (masked_in i.before) i.explained;
-      unexplained = λ x. i.unexplained (some_alike back (masked_in (i.before ++ it.marked ∷ [])) (subst (ExplainsSome F) (sym (masked_append i.before (it.marked ∷ []))) x));
-      possible = some_alike to (masked_in i.before ++ with_other (masked it.marked) (word_shown it.sent) ∷ []) i.possible;
-      is_told = is ∙ ap (λ n. told_at n (masked it.marked) (word_shown it.sent)) c.is.1;
+      are_told = are_told c.front i.before c.are;
+      is_seen = subst (IsToldAs c.stated) seen c.is.0;
+      explained = reading_alike to (maybe_in i.before) i.explained;
+      unexplained = λ x. i.unexplained (reading_alike back (maybe_in (i.before ++ m ∷ [])) (subst (ExplainsReading F) here x));
+      possible = reading_alike to (maybe_in i.before ++ Seen (with_other (masked m) (word_shown it.sent)) ∷ []) i.possible;
+      is_told = is ∙ ap (λ n. told_at n (masked m) (word_shown it.sent)) c.is.1;
     }
 
 pub none_told : (first : Option Unexplained) (told : Option UnexplainedLine) → TellsUnexplained first told → told ≡ None → first ≡ None
@@ -67,53 +102,75 @@ told_none None (Some line) tells e = absurd tells
 told_none (Some it) None tells e = absurd tells
 told_none (Some it) (Some line) tells e = absurd (cc)
 
--- what comes of a recording that was read to its end
-pub explained_all : (input : Option (List ℕ)) (left new : Left) (ms : List Marked) (first : Option Unexplained) (told : Option UnexplainedLine) (P Q : Description) → AnswersAlike Q P
-    → ReadSoFar input left ms → NextSeen left new (Ok None) → TellsUnexplained first told → (first ≡ None) ↔ ExplainsSome (IsExplained Q) (masked_in ms)
-    → IfSome input (λ script. (recording : List MaskedSighting) × StatesRecording script recording × ((told ≡ None) ↔ ExplainsSome (IsExplained P) recording))
-explained_all None left new ms first told P Q alike read end tells decided = tt
-explained_all (Some script) left new ms first told P Q alike read end tells decided =
+-- ---- what comes of a recording
+
+-- of one that was read to its end
+pub explained_all : (input : Option (List ℕ)) (left new : Left) (ms : List Marked) (first : Option Unexplained) (told : Option UnexplainedLine) (warning : Option ScriptWarning) (P Q : Description) → AnswersAlike Q P
+    → ReadSoFar input left ms → NextSeen left new (Ok None) → TellsUnexplained first told → IsDecidedAt Q [] ms first → warning ≡ recorded_warning (maybe_in ms)
+    → IfSome input (λ script. (recording : List MaybeSighting) × StatesRecording script recording × ((told ≡ None) ↔ ExplainsReading (IsExplained P) recording) × (warning ≡ recorded_warning recording))
+explained_all None left new ms first told warning P Q alike read end tells decided warned = tt
+explained_all (Some script) left new ms first told warning P Q alike read end tells decided warned =
     let a = read_all script left new ms read end in (
-      masked_in ms,
-      (a.0, a.1, are_seen a.0 ms a.2),
+      maybe_in ms,
+      (a.0, a.1, are_told a.0 ms a.2),
       (
-        λ e. some_alike (explained_alike Q P alike) (masked_in ms) (decided.0 (none_told first told tells e)),
-        λ x. told_none first told tells (decided.1 (some_alike (explained_alike P Q (λ h e. sym (alike h e))) (masked_in ms) x)),
+        λ e. reading_alike (explained_alike Q P alike) (maybe_in ms) (decided.explained.0 (none_told first told tells e)),
+        λ x. told_none first told tells (decided.explained.1 (reading_alike (explained_alike P Q (λ h e. sym (alike h e))) (maybe_in ms) x)),
       ),
+      warned,
     )
 
 pub first_all : (input : Option (List ℕ)) (left new : Left) (ms : List Marked) (first : Option Unexplained) (told : Option UnexplainedLine) (P Q : Description) → AnswersAlike Q P
-    → ReadSoFar input left ms → NextSeen left new (Ok None) → TellsUnexplained first told → IfSome first (watched.IsUnexplainedAt Q [] ms)
+    → ReadSoFar input left ms → NextSeen left new (Ok None) → TellsUnexplained first told → IsDecidedAt Q [] ms first
     → IfSome told (λ line. IfSome input (λ script. IsFirstUnexplained P script (told_answer line.answer)))
 first_all input left new ms first None P Q alike read end tells found = tt
 first_all input left new ms None (Some line) P Q alike read end tells found = absurd tells
 first_all None left new ms (Some it) (Some line) P Q alike read end tells found = tt
 first_all (Some script) left new ms (Some it) (Some line) P Q alike read end tells found =
     let a = read_all script left new ms read end in
-    (a.0, a.1, first_told (explained_alike Q P alike) (explained_alike P Q (λ h e. sym (alike h e))) a.0 ms it (told_answer line.answer) a.2 tells found)
+    (a.0, a.1, first_told (explained_alike Q P alike) (explained_alike P Q (λ h e. sym (alike h e))) a.0 ms it (told_answer line.answer) a.2 tells found.unexplained)
 
 -- ---- a witness
 
-pub is_witness : (P Q : Description) → AnswersAlike Q P → (script : List ℕ) (recording : List MaskedSighting) (events : List Event) → Q.address ≤ 30 → IsRecording (unmasked recording)
-    → StatesRecording script recording → AreProper events → sightings Q events ≡ shown_of Q (unmasked recording) → IsWitness P script events
-is_witness P Q alike script recording events low is states proper shown = record {
+-- the events of what came for certain
+pub plays_seen : (P Q : Description) → AnswersAlike Q P → (ms : List Marked) (events : List Event) → Q.address ≤ 30 → AreProper events → sightings Q events ≡ shown_of Q (seen_in ms) → PlaysSeen P ms events
+plays_seen P Q alike ms events low proper shown = record {
   proper = proper;
-  recording = recording;
-  states = states;
   plays = λ x.
-      subst (FitsMasked recording) (sym (sym (sightings_alike Q P alike [] events) ∙ shown))
-      ((mask_law.decided Q [] recording low is).0 (some_alike (explained_alike P Q (λ h e. sym (alike h e))) recording x));
+      subst (FitsMasked (certain (maybe_in ms))) (sym (sym (sightings_alike Q P alike [] events) ∙ shown))
+      ((mask_law.decided Q [] (certain (maybe_in ms)) low (certain_recording (maybe_in ms) (are_recording ms))).0 (some_alike (explained_alike P Q (λ h e. sym (alike h e))) (certain (maybe_in ms)) x));
 }
 
--- what a script states, read: its witness, and the text of that
-pub witness_by : (input : Option (List ℕ)) (recording : List MaskedSighting) (events : List Event) → IfSome input (λ script. StatesRecording script recording)
-    → {G : Description → Type 0} → ((script : List ℕ) → StatesRecording script recording → (P : Description) → G P → IsWitness P script events)
-    → IfSome input (λ script. (P : Description) → G P → IsWitness P script events)
-witness_by None recording events states witness = tt
-witness_by (Some script) recording events states witness = witness script states
+pub is_played : (P : Description) (script : List ℕ) (ms : List Marked) (events : List Event) → StatesRecording script (maybe_in ms) → PlaysSeen P ms events → PlaysCertain P script events
+is_played P script ms events states i = record { proper = i.proper; recording = maybe_in ms; states = states; plays = i.plays }
 
-pub witness_of : (G : Description → Type 0) (input : Option (List ℕ)) (text : List ℕ) (events : List Event) → text ≡ script_text events
-    → IfSome input (λ script. (P : Description) → G P → IsWitness P script events)
+pub certain_all : (xs : List MaskedSighting) → certain (map Seen xs) ≡ xs
+certain_all [] = refl
+certain_all (x ∷ xs) = ap (λ l. x ∷ l) (certain_all xs)
+
+-- of a reading that is explained, if one is
+pub is_witness : (P D : Description) → AnswersAlike D P → (script : List ℕ) (ms settled : List Marked) (events : List Event) → IsSettled D [] ms settled → StatesRecording script (maybe_in ms) → PlaysSeen P settled events → IsWitness P script events
+is_witness P D alike script ms settled events s states i =
+    let same : certain (maybe_in settled) ≡ masked_in settled = ap certain (all_seen settled s.seen) ∙ certain_all (masked_in settled) in
+    record {
+      proper = i.proper;
+      recording = maybe_in ms;
+      states = states;
+      reading = masked_in settled;
+      reads = s.reads;
+      plays = λ x.
+          subst (λ l. ExplainsSome (IsExplained P) l → FitsMasked l (sightings P events)) same i.plays
+          (some_alike (explained_alike D P alike) (masked_in settled) (s.explained (reading_alike (explained_alike P D (λ h e. sym (alike h e))) (maybe_in ms) x)));
+    }
+
+-- what a script states, read: what is played of it, and its witness as a script
+pub played_by : (input : Option (List ℕ)) (ms : List Marked) (events : List Event) {G : Description → Type 0} → IfSome input (λ script. StatesRecording script (maybe_in ms))
+    → ((P : Description) → G P → PlaysSeen P ms events) → IfSome input (λ script. (P : Description) → G P → PlaysCertain P script events)
+played_by None ms events states plays = tt
+played_by (Some script) ms events states plays = λ P g. is_played P script ms events states (plays P g)
+
+pub witness_by : (input : Option (List ℕ)) (D : Description) (ms settled : List Marked) (text : List ℕ) (events : List Event) {G : Description → Type 0} → IsSettled D [] ms settled → IfSome input (λ script. StatesRecording script (maybe_in ms))
+    → text ≡ script_text events → ((P : Description) → G P → AnswersAlike D P) → ((P : Description) → G P → PlaysSeen P settled events)
     → IfSome input (λ script. (events : List Event) × (text ≡ script_text events) × ((P : Description) → G P → IsWitness P script events))
-witness_of G None text events is witness = tt
-witness_of G (Some script) text events is witness = (events, is, witness)
+witness_by None D ms settled text events s states is alike plays = tt
+witness_by (Some script) D ms settled text events s states is alike plays = (events, is, λ P g. is_witness P D (alike P g) script ms settled events s states (plays P g))

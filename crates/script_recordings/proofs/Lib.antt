@@ -1,4 +1,6 @@
 pub mod ReadLaws
+pub mod SettleLaws
 pub mod ExplainedLaws
 pub mod WordLaws
 pub mod SinceLaws
+pub mod TallyLaws

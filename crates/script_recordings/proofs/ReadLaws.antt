@@ -1,8 +1,10 @@
 -- Laws of a recording that is read, sighting by sighting.
-use Rattle.std.proofs.Common.{◌≡◌, ◌∙◌, ℕ, Option, Some, None, IfSome, Result, Ok, Err, List, [], ◌∷◌, ◌++◌, ⊎_elim, refl, sym, ap, subst, append-nil}
-use Rattle.terminal_recordings.specs.Masks.{MaskedSighting}
+use Rattle.std.proofs.Common.{◌≡◌, ◌∙◌, ℕ, Option, Some, None, IfSome, Result, Ok, Err, List, [], ◌∷◌, ◌++◌, ⊎_elim, inl, inr, refl, sym, ap, subst, append-nil}
+use Rattle.terminal_recordings.specs.MaybeGaps.{MaybeSighting}
 use Rattle.recorded_terminal.specs.declared.watch.Marked.{Marked}
-use Rattle.recorded_terminal.specs.Watched.{masked_in}
+use Rattle.recorded_terminal.specs.Marks.{maybe, maybe_in, HasMaybeGap}
+use Rattle.recorded_terminal.specs.declared.watch.WatchFault.{WatchFault}
+use Rattle.recorded_terminal.specs.declared.watch.WatchFault.TheVariants as watch
 use Rattle.rt1553_verify.specs.declared.stated.Stated.{Stated}
 use Rattle.rt1553_verify.specs.declared.stated.StatedFault.{StatedFault}
 use Rattle.rt1553_verify.specs.declared.stated.StatedFault.TheVariants.{Memory, Read}
@@ -10,10 +12,10 @@ use Rattle.rt1553_verify.specs.Stated.{StatedEvent, shown, then_events, stated_t
 use Rattle.rt1553_verify.specs.Reader.{NextIs}
 use Rattle.rt1553_verify.proofs.StatedLaws.{then-twice}
 use Rattle.script_recordings.specs.declared.reading.RecordingFault.{RecordingFault}
-use Rattle.script_recordings.specs.declared.reading.RecordingFault.TheVariants.{Unseen, Masked, NoWord, Script}
-use Rattle.script_recordings.specs.Seen.{AreSeenAs, IsUnseenAs, StatesRecording, StatesNoRecording}
+use Rattle.script_recordings.specs.declared.reading.RecordingFault.TheVariants.{Unseen, Masked, NoWord, TooManyWays, Script}
+use Rattle.script_recordings.specs.Seen.{AreToldAs, IsUnseenAs, IsOpen, StatesRecording, StatesNoRecording}
 use Rattle.script_recordings.specs.Messages.{InMessage, AreInMessages}
-use Rattle.script_recordings.specs.inner.Reads.{Left, IsMarkedAs, SaysNothing, RefusesRest, NextSeen}
+use Rattle.script_recordings.specs.inner.Reads.{Left, IsMarkedAs, SaysNothing, RefusesRest, NextSeen, watch_fault_of}
 
 abbrev Said : Type 0
 Said = Result (List StatedEvent) StatedFault
@@ -31,11 +33,11 @@ marked_more [] s (n ∷ ms) m are is = absurd are
 marked_more (t ∷ ss) s [] m are is = absurd are
 marked_more (t ∷ ss) s (n ∷ ms) m are is = (are.0, marked_more ss s ms m are.1 is)
 
-pub are_seen : (ss : List StatedEvent) (ms : List Marked) → AreMarkedAs ss ms → AreSeenAs ss (masked_in ms)
-are_seen [] [] are = tt
-are_seen [] (m ∷ ms) are = absurd are
-are_seen (s ∷ ss) [] are = absurd are
-are_seen (s ∷ ss) (m ∷ ms) are = (are.0.0, are_seen ss ms are.1)
+pub are_told : (ss : List StatedEvent) (ms : List Marked) → AreMarkedAs ss ms → AreToldAs ss (maybe_in ms)
+are_told [] [] are = tt
+are_told [] (m ∷ ms) are = absurd are
+are_told (s ∷ ss) [] are = absurd are
+are_told (s ∷ ss) (m ∷ ms) are = (are.0.0, are_told ss ms are.1)
 
 -- the event of one of the sightings
 pub record Split (ss : List StatedEvent) (before : List Marked) (m : Marked) (later : List Marked) : Type 0 where
@@ -96,14 +98,15 @@ read_fault (Some script) left new ms fault (front, later, is, all, are) next = c
     Unread f = (s : StatedEvent) × (rest : List StatedEvent) × (later ≡ Ok (s ∷ rest)) × IsUnseenAs s f
 
     unseen : (f : RecordingFault) → Unread f → (ss : List StatedEvent) × (stated_through script ≡ Ok ss)
-        × ((fr : List StatedEvent) × (s : StatedEvent) × (rest : List StatedEvent) × (xs : List MaskedSighting) × (ss ≡ fr ++ s ∷ rest) × AreSeenAs fr xs × IsUnseenAs s f)
-    unseen f (s, rest, e, bad) = (front ++ s ∷ rest, all ∙ ap (then_events front) e, (front, s, rest, masked_in ms, refl, are_seen front ms are, bad))
+        × ((fr : List StatedEvent) × (s : StatedEvent) × (rest : List StatedEvent) × (xs : List MaybeSighting) × (ss ≡ fr ++ s ∷ rest) × AreToldAs fr xs × IsUnseenAs s f)
+    unseen f (s, rest, e, bad) = (front ++ s ∷ rest, all ∙ ap (then_events front) e, (front, s, rest, maybe_in ms, refl, are_told front ms are, bad))
 
     case : (f : RecordingFault) → NextSeen (Some later) new (Err f) → StatesNoRecording script f
     case (Script other) n = λ memory read. all ∙ ap (then_events front) (n memory read)
     case (Unseen line) n = unseen (Unseen line) n
     case (Masked line) n = unseen (Masked line) n
     case (NoWord line) n = unseen (NoWord line) n
+    case TooManyWays (t, ts, e, bad) = absurd bad
 
 -- ---- to which messages they belong
 
@@ -160,6 +163,7 @@ next_unseen (Some said) mid new s fault given (later, is, e) bad refuses = rest 
     event ss all (Unseen line) bad = (shown s, ss, all, bad)
     event ss all (Masked line) bad = (shown s, ss, all, bad)
     event ss all (NoWord line) bad = (shown s, ss, all, bad)
+    event ss all TooManyWays bad = absurd bad
 
     rest : (l : Said) → said ≡ then_events (shown s ∷ []) l → RefusesRest (Some l) fault given → NextSeen (Some said) new (Err given)
     rest (Ok ss) all r = ⊎_elim
@@ -172,6 +176,31 @@ next_unseen (Some said) mid new s fault given (later, is, e) bad refuses = rest 
 -- ---- the whole recording
 
 pub recording_all : (input : Option (List ℕ)) (left new : Left) (ms : List Marked) → ReadSoFar input left ms → NextSeen left new (Ok None)
-    → IfSome input (λ script. StatesRecording script (masked_in ms))
+    → IfSome input (λ script. StatesRecording script (maybe_in ms))
 recording_all None left new ms read end = tt
-recording_all (Some script) left new ms read end = let a = read_all script left new ms read end in (a.0, a.1, are_seen a.0 ms a.2)
+recording_all (Some script) left new ms read end = let a = read_all script left new ms read end in (a.0, a.1, are_told a.0 ms a.2)
+
+-- ---- gaps that may have come
+
+pub open_in : (ms : List Marked) → HasMaybeGap ms → IsOpen (maybe_in ms)
+open_in [] has = absurd has
+open_in (m ∷ ms) (inl (bus, is)) = ([], bus, maybe_in ms, ap (λ x. x ∷ maybe_in ms) is)
+open_in (m ∷ ms) (inr has) = let (front, bus, rest, is) = open_in ms has in (maybe m ∷ front, bus, rest, ap (λ l. maybe m ∷ l) is)
+
+-- a fault of a watch
+pub watch_refused : (input : Option (List ℕ)) (left : Left) (ms : List Marked) (fault : WatchFault) → ReadSoFar input left ms → (fault ≡ watch.TooManyWays → HasMaybeGap ms)
+    → IfSome input (λ script. StatesNoRecording script (watch_fault_of fault))
+watch_refused None left ms fault read has = tt
+watch_refused (Some script) left ms watch.Memory read has = λ memory read. absurd (memory refl)
+watch_refused (Some script) left ms watch.TooManyWays (front, later, is, all, are) has = (maybe_in ms, (front, later, all, are_told front ms are), open_in ms (has refl))
+
+-- so is that of one by which a reading is sought
+pub settle_refused : (input : Option (List ℕ)) (ms : List Marked) (fault : WatchFault) → IfSome input (λ script. StatesRecording script (maybe_in ms)) → (fault ≡ watch.TooManyWays → HasMaybeGap ms)
+    → IfSome input (λ script. StatesNoRecording script (watch_fault_of fault))
+settle_refused None ms fault states has = tt
+settle_refused (Some script) ms watch.Memory states has = λ memory read. absurd (memory refl)
+settle_refused (Some script) ms watch.TooManyWays (ss, said, are) has = (maybe_in ms, (ss, Ok [], said ∙ ap Ok (sym (append-nil ss)), are), open_in ms (has refl))
+
+pub memory_refused : (input : Option (List ℕ)) → IfSome input (λ script. StatesNoRecording script (Script Memory))
+memory_refused None = tt
+memory_refused (Some script) = λ memory read. absurd (memory refl)

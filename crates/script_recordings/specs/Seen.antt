@@ -1,18 +1,22 @@
 -- The recording that a script states: each of its events is one that is seen, and what is stated of it is the line of the word that
--- was sent, or nothing where none was. A data word can be left open. What is handed over is left out.
-use Rattle.std.specs.Prelude.{◌≡◌, ◌≢◌, ◌<◌, ◌^◌, ℕ, Bool, true, false, if◌then◌else◌, Option, Some, None, codes, Ok, Err, List, [], ◌∷◌, ◌++◌}
+-- was sent, or nothing where none was. A data word can be left open, and a gap may have come or not. What is handed over is left out.
+use Rattle.std.specs.Prelude.{◌≡◌, ◌≢◌, ◌<◌, ◌^◌, ◌==◌, ◌&&◌, ℕ, Bool, true, false, not, if◌then◌else◌, Option, Some, None, is_some, codes, Result, Ok, Err, List, [], ◌∷◌, ◌++◌, filter, length}
 use Rattle.bus_word.specs.declared.word.Bus.{Bus}
 use Rattle.bus_word.specs.declared.word.Bus.TheVariants.{A, B}
 use Rattle.bus_word.specs.declared.word.Kind.TheVariants.{Dat}
+use Rattle.terminal_rules.specs.declared.event.Event.TheVariants.{Gap}
 use Rattle.terminal_rules.specs.Out.{Sending, sending_out}
 use Rattle.terminal_recordings.specs.Recordings.{is_seen}
 use Rattle.terminal_recordings.specs.Masks.{MaskedSighting}
+use Rattle.terminal_recordings.specs.MaybeGaps.{MaybeSighting, Seen, MaybeGap}
 use Rattle.script_lines.specs.Transcript.{answer_text, sent_text}
 use Rattle.rt1553_verify.specs.declared.matching.Matching.TheVariants.{Exact, Masked as Mask}
+use Rattle.rt1553_verify.specs.declared.stated.ScriptWarning.{ScriptWarning}
+use Rattle.rt1553_verify.specs.declared.stated.StatedFault.{StatedFault}
 use Rattle.rt1553_verify.specs.declared.stated.StatedFault.TheVariants.{Memory, Read}
-use Rattle.rt1553_verify.specs.Stated.{StatedEvent, is_gap, stated_through}
+use Rattle.rt1553_verify.specs.Stated.{StatedEvent, is_gap, is_maybe, stated_through, then_events, stated_warning}
 use Rattle.script_recordings.specs.declared.reading.RecordingFault.{RecordingFault}
-use Rattle.script_recordings.specs.declared.reading.RecordingFault.TheVariants.{Unseen, Masked, NoWord, Script}
+use Rattle.script_recordings.specs.declared.reading.RecordingFault.TheVariants.{Unseen, Masked, NoWord, TooManyWays, Script}
 
 -- the line that leaves a data word open, on a bus: its bits are dots
 abbrev pub open_line : Bus → List ℕ
@@ -37,7 +41,7 @@ StatesSent s true sent = (s.matching ≡ Mask) × (s.answer ≡ stated_word true
 
 -- what a bus shows of what is stated: nothing of what is stated of a gap, where something is handed over, and no word is sent
 abbrev pub bus_shows : StatedEvent → StatedEvent
-bus_shows s = if is_gap s.event then record s { matching = Exact; answer = [] } else s
+bus_shows s = if is_gap s.event && not (is_maybe s.matching) then record s { matching = Exact; answer = [] } else s
 
 -- what a script states of an event is this sighting
 pub record IsSeenAs (s : StatedEvent) (x : MaskedSighting) : Type 0 where
@@ -45,11 +49,16 @@ pub record IsSeenAs (s : StatedEvent) (x : MaskedSighting) : Type 0 where
   pub seen : is_seen s.event ≡ true
   pub sent : StatesSent (bus_shows s) x.any_word x.sighting.sent
 
+-- what a script states of an event is what was seen, or that it is a gap that may have come
+abbrev pub IsToldAs : StatedEvent → MaybeSighting → Type 0
+IsToldAs s (Seen x) = IsSeenAs s x
+IsToldAs s (MaybeGap b) = (s.event ≡ Gap b) × (is_maybe s.matching ≡ true)
+
 -- event by event
-abbrev pub AreSeenAs : List StatedEvent → List MaskedSighting → Type 0
-AreSeenAs [] [] = Unit {0}
-AreSeenAs (s ∷ ss) (x ∷ xs) = IsSeenAs s x × AreSeenAs ss xs
-AreSeenAs _ _ = ⊥
+abbrev pub AreToldAs : List StatedEvent → List MaybeSighting → Type 0
+AreToldAs [] [] = Unit {0}
+AreToldAs (s ∷ ss) (x ∷ xs) = IsToldAs s x × AreToldAs ss xs
+AreToldAs _ _ = ⊥
 
 -- it is neither nothing nor the line of a word of 16 bits
 abbrev pub IsNoWord : List ℕ → Type 0
@@ -69,14 +78,33 @@ IsUnseenAs s fault = StatesNoWord (bus_shows s) fault
 -- events are no recording, since this is the first of them that is no sighting
 abbrev pub IsNoRecording : List StatedEvent → RecordingFault → Type 0
 IsNoRecording ss fault =
-    (front : List StatedEvent) × (s : StatedEvent) × (rest : List StatedEvent) × (xs : List MaskedSighting)
-    × (ss ≡ front ++ s ∷ rest) × AreSeenAs front xs × IsUnseenAs s fault
+    (front : List StatedEvent) × (s : StatedEvent) × (rest : List StatedEvent) × (xs : List MaybeSighting)
+    × (ss ≡ front ++ s ∷ rest) × AreToldAs front xs × IsUnseenAs s fault
 
--- a script states a recording: it says events, and this is seen of them
-abbrev pub StatesRecording : List ℕ → List MaskedSighting → Type 0
-StatesRecording script xs = (ss : List StatedEvent) × (stated_through script ≡ Ok ss) × AreSeenAs ss xs
+-- a script states a recording: it says events, and this is told of them
+abbrev pub StatesRecording : List ℕ → List MaybeSighting → Type 0
+StatesRecording script xs = (ss : List StatedEvent) × (stated_through script ≡ Ok ss) × AreToldAs ss xs
 
--- why a script states none: it has a fault, but when memory runs out or a read fails, or else what it says is no recording
+-- a gap in it may have come or not
+abbrev pub IsOpen : List MaybeSighting → Type 0
+IsOpen xs = (front : List MaybeSighting) × (bus : Bus) × (rest : List MaybeSighting) × (xs ≡ front ++ MaybeGap bus ∷ rest)
+
+-- a script begins with events of which this is told
+abbrev pub BeginsAs : List ℕ → List MaybeSighting → Type 0
+BeginsAs script xs = (front : List StatedEvent) × (later : Result (List StatedEvent) StatedFault) × (stated_through script ≡ then_events front later) × AreToldAs front xs
+
+-- Why a script states none: it has a fault, or else what it says is no recording; or gaps that may have come leave too many ways open to
+-- judge it. That memory runs out and that a read fails say nothing of it.
 abbrev pub StatesNoRecording : List ℕ → RecordingFault → Type 0
 StatesNoRecording script (Script fault) = fault ≢ Memory → fault ≢ Read → stated_through script ≡ Err fault
+StatesNoRecording script TooManyWays = (xs : List MaybeSighting) × BeginsAs script xs × IsOpen xs
 StatesNoRecording script fault = (ss : List StatedEvent) × (stated_through script ≡ Ok ss) × IsNoRecording ss fault
+
+-- a word was sent
+abbrev pub shows_word : MaybeSighting → Bool
+shows_word (Seen x) = is_some x.sighting.sent
+shows_word (MaybeGap bus) = false
+
+-- a recording without an event, or without a word that was sent, shows nothing
+abbrev pub recorded_warning : List MaybeSighting → Option ScriptWarning
+recorded_warning xs = stated_warning (not (length xs == 0)) (length (filter shows_word xs))

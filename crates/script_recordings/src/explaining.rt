@@ -1,23 +1,26 @@
 //! The first line of a recording that nothing explains.
-ghost use Rattle.std.specs.Prelude.{◌≡◌, ◌↔◌, true, false, IfOk, IfErr, IfSome, List, None};
+ghost use Rattle.std.specs.Prelude.{◌≡◌, ◌↔◌, true, false, drop, IfOk, IfErr, IfSome, List, None};
 ghost use Rattle.bus_legal.specs.Description.{Description};
 ghost use Rattle.bus_legal.specs.Parts.{description_in};
 ghost use Rattle.bus_legal.specs.Reach.{reach};
 ghost use Rattle.terminal_recordings.specs.Recordings.{IsExplained};
-ghost use Rattle.terminal_recordings.specs.Masks.{MaskedSighting, ExplainsSome};
-ghost use Rattle.recorded_terminal.specs.Watched.{masked};
+ghost use Rattle.terminal_recordings.specs.MaybeGaps.{MaybeSighting, ExplainsReading};
+ghost use Rattle.recorded_terminal.specs.declared.watch.Marked.{Marked};
+ghost use Rattle.recorded_terminal.specs.Marks.{masked, maybe_in};
 ghost use Rattle.recorded_terminal.specs.SentWords.{word_shown};
 ghost use Rattle.rt1553_verify.specs.Verify.{told_answer};
-ghost use Rattle.script_recordings.specs.Seen.{stated_word, StatesRecording, StatesNoRecording};
+ghost use Rattle.script_recordings.specs.Seen.{stated_word, recorded_warning, StatesRecording, StatesNoRecording};
 ghost use Rattle.script_recordings.specs.Explained.{told_at, told_first, IsFirstUnexplained, IsJudgedSince, NothingExplains};
 ghost use Rattle.script_recordings.specs.inner.Reads.{TellsUnexplained, TellsJudged};
+ghost use Rattle.script_recordings.specs.inner.Tallies.{IsTally};
 
 use crate::reading::{RecordingFault, RecordingReader};
+use crate::tally::Tally;
 use crate::words::open_line;
 use bus_legal::Normal;
 use bus_terminal::{Answer, Sent};
 use recorded_terminal::{FreshPart, LaterWatch, Marked, Unexplained, Watch};
-use rt1553_verify::{ScriptWarning, WrongAnswer, stated_warning};
+use rt1553_verify::{ScriptWarning, WrongAnswer};
 use script_lines::write_answer;
 use std::alloc::{AllocError, Global};
 use std::io::BufRead;
@@ -46,7 +49,7 @@ pub struct Explained {
 pub struct ExplainedSince {
     /// How many words it states.
     pub answers: usize,
-    /// Why that shows nothing, or little, where it does.
+    /// Why the part that is judged shows nothing, where it does.
     pub warning: Option<ScriptWarning>,
     /// The line of the slot that ends the pause after which it is judged. None where no part of it begins afresh after a pause.
     pub after: Option<u64>,
@@ -115,19 +118,27 @@ fn first_told(
 /// What is told of the part that is judged.
 #[derive(Drop)]
 struct JudgedTold {
+    warning: Option<ScriptWarning>,
     after: Option<u64>,
     first: Option<UnexplainedLine>,
 }
 
-fn judged_told(alloc: Global, judged: Option<FreshPart>) -> Result<JudgedTold, AllocError>
-    ensures { IfOk result (λ told. TellsJudged judged told.after told.first) }
+fn judged_told(
+    alloc: Global,
+    tally: &Tally,
+    judged: Option<FreshPart>,
+) -> Result<JudgedTold, AllocError>
+    ensures told { IfOk result (λ told. TellsJudged judged told.after told.first) }
+    ensures warned { IfOk result (λ told. (ms : List Marked) → IsTally ms tally.now → IfSome judged (λ part. told.warning ≡ recorded_warning (maybe_in (drop part.before ms)))) }
 {
     match judged {
         Some(judged) => Ok(JudgedTold {
+            warning: tally.warning_behind(judged.before),
             after: Some(judged.after),
             first: first_told(alloc, judged.first)?,
         }),
         None => Ok(JudgedTold {
+            warning: None,
             after: None,
             first: None,
         }),
@@ -135,32 +146,28 @@ fn judged_told(alloc: Global, judged: Option<FreshPart>) -> Result<JudgedTold, A
 }
 
 /// Reads a recording, of a terminal from power-up, for the first event which no behaviour of the subsystem explains: what is stated of
-/// it, and a line with which it would be explained. None where the whole recording is explained. A script that states no recording is
-/// refused. What lies between two status words is kept, and no more.
+/// it, and a line with which it would be explained. None where the whole recording is explained, with some of the gaps in it that may have
+/// come. A script that states no recording is refused. What lies between two status words is kept, and no more.
 pub fn watch_recording<B: BufRead + Drop>(
     alloc: Global,
     normal: &Normal,
     input: B,
 ) -> Result<Explained, RecordingFault>
-    ensures explained { (P : Description) → description_in normal.now ≡ reach P → IfOk result (λ it. IfSome (B.remaining input) (λ script. (recording : List MaskedSighting) × StatesRecording script recording × ((it.first ≡ None) ↔ ExplainsSome (IsExplained P) recording))) }
+    ensures explained { (P : Description) → description_in normal.now ≡ reach P → IfOk result (λ it. IfSome (B.remaining input) (λ script. (recording : List MaybeSighting) × StatesRecording script recording × ((it.first ≡ None) ↔ ExplainsReading (IsExplained P) recording) × (it.warning ≡ recorded_warning recording))) }
     ensures first { (P : Description) → description_in normal.now ≡ reach P → IfOk result (λ it. IfSome it.first (λ line. IfSome (B.remaining input) (λ script. IsFirstUnexplained P script (told_answer line.answer)))) }
     ensures refused { IfErr result (λ fault. IfSome (B.remaining input) (λ script. StatesNoRecording script fault)) }
 {
     let mut reader = RecordingReader::new(alloc, normal.address(), input);
-    let mut watch = Watch::power_up(alloc, normal.setup(), *normal);
-    let mut has_event = false;
-    let mut answers: usize = 0;
+    let mut watch = Watch::power_up(alloc, normal.setup(), *normal)?;
+    let mut tally = Tally::new();
     'sightings: while let Some(marked) = reader.next()? {
-        has_event = true;
-        if marked.sighting.sent.is_some() {
-            answers = answers.saturating_add(1);
-        }
+        tally.take(&marked)?;
         watch.see(marked)?;
     }
     Ok(Explained {
-        answers,
-        warning: stated_warning(has_event, answers),
-        first: first_told(alloc, watch.end())?,
+        answers: tally.answers,
+        warning: tally.warning_behind(0),
+        first: first_told(alloc, watch.end()?)?,
     })
 }
 
@@ -172,25 +179,21 @@ pub fn watch_since<B: BufRead + Drop>(
     normal: &Normal,
     input: B,
 ) -> Result<ExplainedSince, RecordingFault>
-    ensures judged { IfOk result (λ it. IfSome (B.remaining input) (λ script. IsJudgedSince (description_in normal.now) script it.after (told_first it.first))) }
+    ensures judged { IfOk result (λ it. IfSome (B.remaining input) (λ script. IsJudgedSince (description_in normal.now) script it.after (told_first it.first) it.warning)) }
     ensures never { (P : Description) → description_in normal.now ≡ reach P → IfOk result (λ it. IfSome it.first (λ line. IfSome (B.remaining input) (λ script. NothingExplains P script))) }
     ensures refused { IfErr result (λ fault. IfSome (B.remaining input) (λ script. StatesNoRecording script fault)) }
 {
     let mut reader = RecordingReader::new(alloc, normal.address(), input);
-    let mut watch = LaterWatch::new(alloc, normal.setup(), *normal);
-    let mut has_event = false;
-    let mut answers: usize = 0;
+    let mut watch = LaterWatch::new(alloc, normal.setup(), *normal)?;
+    let mut tally = Tally::new();
     'sightings: while let Some(marked) = reader.next()? {
-        has_event = true;
-        if marked.sighting.sent.is_some() {
-            answers = answers.saturating_add(1);
-        }
+        tally.take(&marked)?;
         watch.see(marked)?;
     }
-    let judged = judged_told(alloc, watch.end())?;
+    let judged = judged_told(alloc, &tally, watch.end()?)?;
     Ok(ExplainedSince {
-        answers,
-        warning: stated_warning(has_event, answers),
+        answers: tally.answers,
+        warning: judged.warning,
         after: judged.after,
         first: judged.first,
     })

@@ -3,6 +3,8 @@
 
 mod explaining;
 mod reading;
+mod settling;
+mod tally;
 mod telling;
 mod words;
 

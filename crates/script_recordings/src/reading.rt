@@ -1,20 +1,20 @@
 //! The recording that a script states, read sighting by sighting.
-ghost use Rattle.std.specs.Prelude.{◌≡◌, ◌<◌, ℕ, true, false, map, IfOk, IfErr, IfSome, Option, None};
+ghost use Rattle.std.specs.Prelude.{◌≡◌, ◌<◌, ℕ, true, false, IfOk, IfErr, IfSome, Option, None};
 ghost use Rattle.bus_word.specs.declared.word.Bus.{Bus};
 ghost use Rattle.rt1553_verify.specs.Stated.{shown, stated_through};
 ghost use Rattle.rt1553_verify.specs.Reader.{left_in, turns_left};
-ghost use Rattle.recorded_terminal.specs.Watched.{masked_in};
+ghost use Rattle.recorded_terminal.specs.Marks.{IsSeen, maybe_in, masked};
 ghost use Rattle.recorded_terminal.specs.SentWords.{word_shown};
-ghost use Rattle.script_recordings.specs.Seen.{bus_shows, open_line, stated_word, IsData, StatesSent, IsNoWord, StatesNoWord, IsUnseenAs, StatesRecording, StatesNoRecording};
+ghost use Rattle.script_recordings.specs.Seen.{bus_shows, open_line, stated_word, IsData, StatesSent, IsNoWord, IsSeenAs, StatesNoWord, IsUnseenAs, StatesRecording, StatesNoRecording};
 ghost use Rattle.script_recordings.specs.Messages.{InMessage, AreInMessages};
-ghost use Rattle.script_recordings.specs.inner.Reads.{IsMarkedAs, NextSeen, RefusesRest};
+ghost use Rattle.script_recordings.specs.inner.Reads.{IsMarkedAs, NextSeen, RefusesRest, watch_fault_of};
 ghost use Rattle.script_recordings.specs.declared.reading.RecordingFault.TheVariants.{Masked, NoWord, Script};
 ghost use Rattle.rt1553_verify.specs.declared.stated.StatedFault.TheVariants.{Memory};
 
 use crate::words::{open_bus, read_sent};
 use bus_terminal::{Event, Sent};
 use bus_word::Kind;
-use recorded_terminal::{Marked, Sighting};
+use recorded_terminal::{Marked, Sighting, WatchFault};
 use rt1553_verify::{Matching, Stated, StatedFault, StatedReader, command_after};
 use std::alloc::{AllocError, AllocFailed, Global};
 use std::io::BufRead;
@@ -32,6 +32,9 @@ pub enum RecordingFault {
     /// What is stated of the event of this line is no line of a word that was sent.
     #[error("a recording states the word that was sent, as in \"A s 2800\"")]
     NoWord(u64),
+    /// Gaps that may have come leave more ways open than are followed.
+    #[error("gaps that may have come leave too many ways open")]
+    TooManyWays,
     /// The script is refused, or it is not read on.
     #[error("{0}")]
     Script(StatedFault),
@@ -50,6 +53,17 @@ impl From<AllocError> for RecordingFault {
 
     fn from(_error: AllocError) -> RecordingFault {
         RecordingFault::Script(StatedFault::Memory)
+    }
+}
+
+impl From<WatchFault> for RecordingFault {
+    ghost from_gives = { λ watched fault. fault ≡ watch_fault_of watched };
+
+    fn from(fault: WatchFault) -> RecordingFault {
+        match fault {
+            WatchFault::Memory => RecordingFault::Script(StatedFault::Memory),
+            WatchFault::TooManyWays => RecordingFault::TooManyWays,
+        }
     }
 }
 
@@ -110,7 +124,7 @@ fn word_of(stated: &Stated) -> Result<StatedWord, RecordingFault>
     ensures sent { IfOk result (λ word. StatesSent (bus_shows (shown stated.now)) word.any_word (word_shown word.sent)) }
     ensures refused { IfErr result (λ fault. StatesNoWord (bus_shows (shown stated.now)) fault) }
 {
-    if matches!(stated.event, Event::Gap(_)) {
+    if matches!(stated.event, Event::Gap(_)) && stated.matching != Matching::MaybeGap {
         return whole_word(stated.line, b"");
     }
     match stated.matching {
@@ -120,10 +134,32 @@ fn word_of(stated: &Stated) -> Result<StatedWord, RecordingFault>
     }
 }
 
-/// What is seen of an event, as a script states it, where this is the command word of its message, if there is one.
+/// What is told of an event, as a script states it, where this is the command word of its message, if there is one.
 fn marked_as(stated: &Stated, command: Option<u16>) -> Result<Marked, RecordingFault>
-    ensures seen { IfOk result (IsMarkedAs (shown stated.now)) }
+    ensures told { IfOk result (IsMarkedAs (shown stated.now)) }
+    ensures event { IfOk result (λ marked. marked.sighting.event ≡ stated.now.event) }
     ensures command { IfOk result (λ marked. marked.command ≡ command) }
+    ensures refused { IfErr result (λ fault. IsUnseenAs (shown stated.now) fault) }
+{
+    match stated.event {
+        Event::Gap(bus) if stated.matching == Matching::MaybeGap => Ok(Marked {
+            sighting: Sighting {
+                event: Event::Gap(bus),
+                sent: None,
+            },
+            line: stated.line,
+            command,
+            any_word: false,
+            is_maybe: true,
+        }),
+        _ => seen_as(stated, command),
+    }
+}
+
+/// The same of an event that came.
+fn seen_as(stated: &Stated, command: Option<u16>) -> Result<Marked, RecordingFault>
+    ensures seen { IfOk result (λ marked. IsSeenAs (shown stated.now) (masked marked) × IsSeen marked) }
+    ensures line { IfOk result (λ marked. (marked.line ≡ stated.now.line) × (marked.command ≡ command) × (marked.sighting.event ≡ stated.now.event)) }
     ensures refused { IfErr result (λ fault. IsUnseenAs (shown stated.now) fault) }
 {
     let StatedWord { sent, any_word } = word_of(stated)?;
@@ -133,6 +169,7 @@ fn marked_as(stated: &Stated, command: Option<u16>) -> Result<Marked, RecordingF
             line: stated.line,
             command,
             any_word,
+            is_maybe: false,
         }),
         None => Err(RecordingFault::Unseen(stated.line)),
     }
@@ -199,7 +236,7 @@ pub fn read_recording<B: BufRead + Drop>(
     address: u8,
     input: B,
 ) -> Result<Vec<Marked>, RecordingFault>
-    ensures read { IfOk result (λ recording. IfSome (B.remaining input) (λ script. StatesRecording script (masked_in recording.items))) }
+    ensures read { IfOk result (λ recording. IfSome (B.remaining input) (λ script. StatesRecording script (maybe_in recording.items))) }
     ensures messages { IfOk result (λ recording. (last : Option ℕ) × AreInMessages address None recording.items last) }
     ensures refused { IfErr result (λ fault. IfSome (B.remaining input) (λ script. StatesNoRecording script fault)) }
 {

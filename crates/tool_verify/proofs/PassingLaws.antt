@@ -1,35 +1,72 @@
--- Whether a script passes.
-use Rattle.std.proofs.Common.{ℕ, ◌≡◌, ◌↔◌, ◌∙◌, Bool, true, false, Option, Some, None, IfSome, List, [], ◌∷◌, ◌==◌, length, map, Ok, refl, sym, ap, subst, arith}
+-- The verdict on a script.
+use Rattle.std.proofs.Common.{ℕ, ◌≡◌, ◌↔◌, ◌∙◌, suc, not, cond, Bool, true, false, Option, Some, None, is_none, IfSome, List, [], ◌∷◌, ◌==◌, length, map, filter, Ok, refl, sym, ap, subst, arith}
 use Rattle.std.proofs.lemmas.Bool.Decides.{nat_tests}
+use Rattle.std.proofs.lemmas.List.{length-map}
 use Rattle.bus_legal.specs.Description.{Description}
 use Rattle.bus_legal.specs.Parts.{Parts, description_in}
 use Rattle.bus_legal.specs.Reach.{reach}
 use Rattle.terminal_recordings.specs.Recordings.{IsExplained}
-use Rattle.terminal_recordings.specs.Masks.{MaskedSighting, ExplainsSome}
-use Rattle.rt1553_verify.specs.Stated.{StatedEvent, stated_in}
+use Rattle.terminal_recordings.specs.MaybeGaps.{MaybeSighting, ExplainsReading}
+use Rattle.rt1553_verify.specs.Stated.{StatedEvent, shown, script_warning, stated_in, stated_warning, states_answer}
+use Rattle.rt1553_verify.specs.declared.stated.ScriptWarning.{ScriptWarning}
+use Rattle.rt1553_verify.specs.declared.stated.Stated.{Stated}
+use Rattle.rt1553_report.specs.Verdict.{verdict_of}
+use Rattle.rt1553_report.specs.declared.verdict.Unjudged.{Unjudged}
+use Rattle.rt1553_report.specs.declared.verdict.ScriptVerdict.TheVariants.{Failed}
 use Rattle.rt1553_verify.specs.declared.verifying.WrongAnswer.{WrongAnswer}
 use Rattle.rt1553_verify.specs.Verify.{ToldAnswer, told_answer, wrong_answers_from, by_script, on_bus_by_script}
 use Rattle.script_recordings.specs.declared.explaining.UnexplainedLine.{UnexplainedLine}
 use Rattle.script_recordings.specs.Explained.{told_first, IsJudgedSince, NothingExplains}
-use Rattle.script_recordings.specs.Seen.{StatesRecording}
+use Rattle.script_recordings.specs.Seen.{StatesRecording, recorded_warning}
 use Rattle.rt1553_tool_args.specs.declared.command.ScriptKind.TheVariants.{Recording, LaterRecording}
-use Rattle.tool_verify.specs.Passing.{tells_nothing, scoped, test_kind, SaysBy, SaysOf}
+use Rattle.tool_verify.specs.Passing.{tells_nothing, scoped, test_kind, unjudged_by, unjudged_since, unjudged_test, SaysBy, SaysOf}
 
--- what is said of the events of a test is said of the test
-pub says_so : (on_bus : Bool) (P : Description) (script : List ℕ) (stated seen : List StatedEvent) (passes : Bool)
-    → stated_in script ≡ Ok stated → seen ≡ scoped on_bus stated → passes ≡ tells_nothing (Ok (wrong_answers_from P [] seen)) → SaysBy (test_kind on_bus) P script passes
-says_so false P script stated seen passes reads is says =
-    subst (λ (l : List StatedEvent). passes ≡ tells_nothing (Ok (wrong_answers_from P [] l))) is says ∙ ap tells_nothing (sym (ap (by_script P) reads))
-says_so true P script stated seen passes reads is says =
-    subst (λ (l : List StatedEvent). passes ≡ tells_nothing (Ok (wrong_answers_from P [] l))) is says ∙ ap tells_nothing (sym (ap (on_bus_by_script P) reads))
+-- the verdict on the events of a test is that on the test
+pub says_so : (on_bus : Bool) (P : Description) (script : List ℕ) (stated seen : List StatedEvent) (same : Bool) (unjudged : Option Unjudged)
+    → stated_in script ≡ Ok stated → seen ≡ scoped on_bus stated → same ≡ tells_nothing (Ok (wrong_answers_from P [] seen)) → unjudged ≡ unjudged_test (Ok stated)
+    → SaysBy (test_kind on_bus) P script (verdict_of same unjudged)
+says_so false P script stated seen same unjudged reads is says why =
+    let told = subst (λ (l : List StatedEvent). same ≡ tells_nothing (Ok (wrong_answers_from P [] l))) is says ∙ ap tells_nothing (sym (ap (by_script P) reads)) in
+    let reason = why ∙ ap unjudged_test (sym reads) in
+    λ j. verdict_of (told j) (reason j)
+says_so true P script stated seen same unjudged reads is says why =
+    let told = subst (λ (l : List StatedEvent). same ≡ tells_nothing (Ok (wrong_answers_from P [] l))) is says ∙ ap tells_nothing (sym (ap (on_bus_by_script P) reads)) in
+    let reason = why ∙ ap unjudged_test (sym reads) in
+    λ j. verdict_of (told j) (reason j)
 
--- what is said of a recording by what is told of it
-pub says_recorded : {F : Type 0} (input : Option (List ℕ)) (first : Option F) (passes : Bool) {G : Description → Type 0}
-    → ((P : Description) → G P → IfSome input (λ script. (recording : List MaskedSighting) × StatesRecording script recording × ((first ≡ None) ↔ ExplainsSome (IsExplained P) recording)))
-    → ((passes ≡ true) ↔ (first ≡ None)) → IfSome input (λ script. (P : Description) → G P → SaysBy Recording P script passes)
-says_recorded None first passes explained told = tt
-says_recorded (Some script) first passes explained told = λ P reached.
-    let e = explained P reached in (e.0, e.1, (λ t. e.2.0 (told.0 t), λ x. told.1 (e.2.1 x)))
+-- the answers that are stated, counted in the code and by the definitions
+pub same_answers : (stated : List Stated) → length (filter (λ s. states_answer (shown s)) stated) ≡ length (filter states_answer (map shown stated))
+same_answers [] = refl
+same_answers (s ∷ stated) = by_case (same_answers stated) (states_answer (shown s))
+  where
+    by_case : length (filter (λ x. states_answer (shown x)) stated) ≡ length (filter states_answer (map shown stated)) → (b : Bool)
+        → length (cond b (s ∷ filter (λ x. states_answer (shown x)) stated) (filter (λ x. states_answer (shown x)) stated)) ≡ length (cond b (shown s ∷ filter states_answer (map shown stated)) (filter states_answer (map shown stated)))
+    by_case rest true = ap suc rest
+    by_case rest false = rest
+
+-- why nothing of a test is judged, by the events of the code
+pub same_reason : (stated : List Stated) → unjudged_by (script_warning stated) ≡ unjudged_test (Ok (map shown stated))
+same_reason stated = λ j. unjudged_by (stated_warning (not (sym (length-map stated shown) j == 0)) (same_answers stated j))
+
+none_found : {F : Type 0} (first : Option F) → (is_none first ≡ true) ↔ (first ≡ None)
+none_found None = (λ e. refl, λ e. refl)
+none_found (Some x) = (λ e. absurd (cc), λ e. absurd (cc))
+
+-- the verdict on a recording, by what is told of it
+pub says_recorded : {F : Type 0} (input : Option (List ℕ)) (first : Option F) (warning : Option ScriptWarning) (same : Bool) (unjudged : Option Unjudged) {G : Description → Type 0}
+    → ((P : Description) → G P → IfSome input (λ script. (recording : List MaybeSighting) × StatesRecording script recording × ((first ≡ None) ↔ ExplainsReading (IsExplained P) recording) × (warning ≡ recorded_warning recording)))
+    → same ≡ is_none first → unjudged ≡ unjudged_by warning → IfSome input (λ script. (P : Description) → G P → SaysBy Recording P script (verdict_of same unjudged))
+says_recorded None first warning same unjudged explained told why = tt
+says_recorded (Some script) first warning same unjudged explained told why = λ P reached.
+    let (recording, states, explains, warned) = explained P reached in
+    let found = none_found first in
+    record {
+      recording = recording;
+      states = states;
+      explained = same;
+      says = (λ t. explains.0 (found.0 (sym told ∙ t)), λ x. told ∙ found.1 (explains.1 x));
+      is = ap (verdict_of same) (why ∙ ap unjudged_by warned);
+    }
 
 -- nothing is told where no answer is wrong
 pub nothing_told : (wrong : List WrongAnswer) (told : List ToldAnswer) → map told_answer wrong ≡ told → (length wrong == 0) ≡ tells_nothing (Ok told)
@@ -37,24 +74,30 @@ nothing_told [] told is = ap (λ l. tells_nothing (Ok l)) is
 nothing_told (w ∷ wrong) told is =
     let some : (length (w ∷ wrong) == 0) ≡ false = grind (arith, nat_tests) in some ∙ ap (λ l. tells_nothing (Ok l)) is
 
-told_where : (first : Option UnexplainedLine) → (first ≡ None) ↔ (told_first first ≡ None)
-told_where None = (λ e. refl, λ e. refl)
-told_where (Some line) = (λ e. absurd (cc), λ e. absurd (cc))
+none_told : (first : Option UnexplainedLine) → is_none first ≡ is_none (told_first first)
+none_told None = refl
+none_told (Some line) = refl
 
--- what is said of a recording that began at any time
-pub says_later : (input : Option (List ℕ)) (value : Parts) (after : Option ℕ) (first : Option UnexplainedLine) (passes : Bool) →
-    IfSome input (λ script. IsJudgedSince (description_in value) script after (told_first first)) →
+-- what does not differ does not fail
+no_failure : (unjudged : Option Unjudged) → verdict_of true unjudged ≡ Failed → ⊥
+no_failure None e = absurd (cc)
+no_failure (Some why) e = absurd (cc)
+
+-- the verdict on a recording that began at any time
+pub says_later : (input : Option (List ℕ)) (value : Parts) (after : Option ℕ) (warning : Option ScriptWarning) (first : Option UnexplainedLine) (same : Bool) (unjudged : Option Unjudged) →
+    IfSome input (λ script. IsJudgedSince (description_in value) script after (told_first first) warning) →
     ((P : Description) → description_in value ≡ reach P → IfSome first (λ line. IfSome input (λ script. NothingExplains P script))) →
-    ((passes ≡ true) ↔ (first ≡ None)) → IfSome input (λ script. SaysOf LaterRecording value script passes)
-says_later None value after first passes judged never says = tt
-says_later (Some script) value after first passes judged never says = λ P reached. record {
+    same ≡ is_none first → unjudged ≡ unjudged_since after warning → IfSome input (λ script. SaysOf LaterRecording value script (verdict_of same unjudged))
+says_later None value after warning first same unjudged judged never told why = tt
+says_later (Some script) value after warning first same unjudged judged never told why = λ P reached. record {
   after = after;
   told = told_first first;
-  judged = subst (λ D. IsJudgedSince D script after (told_first first)) reached judged;
-  says = (λ t. (told_where first).0 (says.0 t), λ t. says.1 ((told_where first).1 t));
+  warning = warning;
+  judged = subst (λ D. IsJudgedSince D script after (told_first first) warning) reached judged;
+  is = λ j. verdict_of ((told ∙ none_told first) j) (why j);
   never = λ fails. by P first refl fails (never P reached);
 }
   where
-    by : (P : Description) (o : Option UnexplainedLine) → first ≡ o → passes ≡ false → IfSome o (λ line. NothingExplains P script) → NothingExplains P script
-    by P None is fails x = let wrong : true ≡ false = sym (says.1 is) ∙ fails in absurd (cc)
+    by : (P : Description) (o : Option UnexplainedLine) → first ≡ o → verdict_of same unjudged ≡ Failed → IfSome o (λ line. NothingExplains P script) → NothingExplains P script
+    by P None is fails x = absurd (no_failure unjudged (ap (λ b. verdict_of b unjudged) (sym (told ∙ ap is_none is)) ∙ fails))
     by P (Some line) is fails x = x

@@ -1,18 +1,26 @@
--- Which scripts pass, and the status of one that is refused.
-use Rattle.std.specs.Prelude.{ℕ, Option, None, ◌≡◌, ◌↔◌, ◌⊎◌, Bool, true, false, if◌then◌else◌, List, [], ◌∷◌, map, Result, Ok, Err}
+-- The verdict on a script: it passes, or fails, or nothing of it is judged; and the status of one that is refused.
+use Rattle.std.specs.Prelude.{ℕ, ◌≤◌, ◌==◌, Option, Some, None, is_none, option_map, ◌≡◌, ◌↔◌, ◌⊎◌, Bool, true, false, not, if◌then◌else◌, List, [], ◌∷◌, map, filter, length, Result, Ok, Err}
 use Rattle.bus_legal.specs.Description.{Description}
 use Rattle.bus_legal.specs.Parts.{Parts, description_in}
 use Rattle.bus_legal.specs.Reach.{reach}
 use Rattle.terminal_rules.specs.declared.event.Event.{Event}
 use Rattle.terminal_recordings.specs.Recordings.{IsExplained}
-use Rattle.terminal_recordings.specs.Masks.{MaskedSighting, ExplainsSome}
-use Rattle.rt1553_verify.specs.Stated.{StatedEvent, seen_on_bus}
+use Rattle.terminal_recordings.specs.MaybeGaps.{MaybeSighting, ExplainsReading}
+use Rattle.rt1553_verify.specs.Stated.{StatedEvent, seen_on_bus, stated_in, states_answer, stated_warning}
 use Rattle.rt1553_verify.specs.Verify.{ToldAnswer, verified, verified_on_bus}
 use Rattle.script_lines.specs.EventLine.{script_text}
 use Rattle.script_recordings.specs.Explained.{IsJudgedSince, NothingExplains, IsWitness, IsLaterWitness, HasNoPart}
-use Rattle.script_recordings.specs.Seen.{StatesRecording}
+use Rattle.script_recordings.specs.Seen.{StatesRecording, recorded_warning}
 use Rattle.script_recordings.specs.declared.reading.RecordingFault.{RecordingFault}
 use Rattle.script_recordings.specs.declared.reading.RecordingFault.TheVariants as recording
+use Rattle.rt1553_verify.specs.declared.stated.ScriptWarning.{ScriptWarning}
+use Rattle.rt1553_report.specs.Results.{outcome_verdict}
+use Rattle.rt1553_report.specs.Verdict.{verdict_of}
+use Rattle.rt1553_report.specs.declared.result.ScriptOutcome.{ScriptOutcome}
+use Rattle.rt1553_report.specs.declared.verdict.Unjudged.{Unjudged}
+use Rattle.rt1553_report.specs.declared.verdict.Unjudged.TheVariants.{Unstated, NoPart}
+use Rattle.rt1553_report.specs.declared.verdict.ScriptVerdict.{ScriptVerdict}
+use Rattle.rt1553_report.specs.declared.verdict.ScriptVerdict.TheVariants.{Failed}
 use Rattle.rt1553_tool_args.specs.declared.command.ScriptKind.{ScriptKind}
 use Rattle.rt1553_tool_args.specs.declared.command.ScriptKind.TheVariants.{Test, BusTest, Recording, LaterRecording}
 use Rattle.tool_verify.specs.declared.compared.ScriptFault.{ScriptFault}
@@ -51,26 +59,65 @@ abbrev pub is_later : ScriptKind → Bool
 is_later LaterRecording = true
 is_later _ = false
 
--- What is told of a recording that began at any time, of the terminal of P, by what of P can be reached: it passes exactly if the part that
--- is judged is explained, whatever came before. Where it doesn't, nothing explains the recording, whenever it began.
-pub record SaysSince (P : Description) (script : List ℕ) (passes : Bool) : Type 0 where
+-- why nothing of a script is judged, where nothing differs, by a warning of it
+abbrev pub unjudged_by : Option ScriptWarning → Option Unjudged
+unjudged_by warning = option_map Unstated warning
+
+-- why nothing of a test is judged: it has no event, or states no answer
+abbrev pub unjudged_test : Result (List StatedEvent) StatedFault → Option Unjudged
+unjudged_test (Err fault) = None
+unjudged_test (Ok events) = unjudged_by (stated_warning (not (length events == 0)) (length (filter states_answer events)))
+
+-- why nothing of a recording that began at any time is judged: no part of it begins afresh after a pause, or that of a warning
+abbrev pub unjudged_since : Option ℕ → Option ScriptWarning → Option Unjudged
+unjudged_since None warning = Some NoPart
+unjudged_since (Some line) warning = unjudged_by warning
+
+-- The verdict on a recording, for the terminal of P: it fails exactly if nothing explains it. What is explained passes, if a word was sent in
+-- it; else nothing of it is judged.
+pub record SaysRecorded (P : Description) (script : List ℕ) (verdict : ScriptVerdict) : Type 0 where
+  pub recording : List MaybeSighting
+  pub states : StatesRecording script recording
+  pub explained : Bool
+  pub says : (explained ≡ true) ↔ ExplainsReading (IsExplained P) recording
+  pub is : verdict ≡ verdict_of explained (unjudged_by (recorded_warning recording))
+
+-- The verdict on a recording that began at any time, for the terminal of P, by what of P can be reached. It fails exactly if the part that
+-- is judged is not explained, whatever came before; then nothing explains the recording, whenever it began. Without such a part, or a word
+-- that was sent in it, nothing is judged.
+pub record SaysSince (P : Description) (script : List ℕ) (verdict : ScriptVerdict) : Type 0 where
   pub after : Option ℕ
   pub told : Option ToldAnswer
-  pub judged : IsJudgedSince (reach P) script after told
-  pub says : (passes ≡ true) ↔ (told ≡ None)
-  pub never : passes ≡ false → NothingExplains P script
+  pub warning : Option ScriptWarning
+  pub judged : IsJudgedSince (reach P) script after told warning
+  pub is : verdict ≡ verdict_of (is_none told) (unjudged_since after warning)
+  pub never : verdict ≡ Failed → NothingExplains P script
 
--- it is said of the terminal of P: of a test, whether nothing is told of it, or of what the bus alone shows of it; and of a recording,
--- whether some behaviour of the subsystem explains it
-abbrev pub SaysBy : ScriptKind → Description → List ℕ → Bool → Type 0
-SaysBy Test P script passes = passes ≡ tells_nothing (verified P script)
-SaysBy BusTest P script passes = passes ≡ tells_nothing (verified_on_bus P script)
-SaysBy Recording P script passes = (recording : List MaskedSighting) × StatesRecording script recording × ((passes ≡ true) ↔ ExplainsSome (IsExplained P) recording)
-SaysBy LaterRecording P script passes = SaysSince P script passes
+-- It is the verdict for the terminal of P: on a test, by whether nothing is told of it, or of what the bus alone shows of it, and whether
+-- it states an answer; and on a recording, by whether some behaviour of the subsystem explains it.
+abbrev pub SaysBy : ScriptKind → Description → List ℕ → ScriptVerdict → Type 0
+SaysBy Test P script verdict = verdict ≡ verdict_of (tells_nothing (verified P script)) (unjudged_test (stated_in script))
+SaysBy BusTest P script verdict = verdict ≡ verdict_of (tells_nothing (verified_on_bus P script)) (unjudged_test (stated_in script))
+SaysBy Recording P script verdict = SaysRecorded P script verdict
+SaysBy LaterRecording P script verdict = SaysSince P script verdict
 
--- it is said of the terminal of which this can be reached
-abbrev pub SaysOf : ScriptKind → Parts → List ℕ → Bool → Type 0
-SaysOf kind value script passes = (P : Description) → description_in value ≡ reach P → SaysBy kind P script passes
+-- it is the verdict for the terminal of which this can be reached
+abbrev pub SaysOf : ScriptKind → Parts → List ℕ → ScriptVerdict → Type 0
+SaysOf kind value script verdict = (P : Description) → description_in value ≡ reach P → SaysBy kind P script verdict
+
+-- an outcome has such a verdict
+abbrev pub HasVerdict : ScriptKind → Parts → List ℕ → ScriptOutcome → Type 0
+HasVerdict kind value script outcome = (verdict : ScriptVerdict) × (outcome_verdict outcome ≡ Some verdict) × SaysOf kind value script verdict
+
+-- how much a status counts among those of several scripts: 3, that nothing was judged, more than 0 and less than 1
+abbrev pub gravity : ℕ → ℕ
+gravity status = if status == 3 then 1 else if status == 1 then 2 else if status == 2 then 3 else status
+
+-- the status of two scripts together is that of one, and counts as much as either
+pub record IsGraver (a b status : ℕ) : Type 0 where
+  pub one : (status ≡ a) ⊎ (status ≡ b)
+  pub first : gravity a ≤ gravity status
+  pub second : gravity b ≤ gravity status
 
 -- A text is the script of events that explain the recording which a script states, of the terminal of which this can be reached: just what
 -- is stated is seen of them, if some behaviour of the subsystem explains it.

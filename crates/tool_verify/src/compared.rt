@@ -1,12 +1,14 @@
 //! What a terminal answers otherwise than a script states.
-ghost use Rattle.std.specs.Prelude.{◌≡◌, ◌==◌, ◌↔◌, ◌++◌, None, true, IfOk, IfSome, MatchOption, length, map};
+ghost use Rattle.std.specs.Prelude.{◌≡◌, ◌==◌, ◌++◌, Ok, None, is_none, IfOk, IfSome, MatchOption, length, map};
 ghost use Rattle.bus_legal.specs.Parts.{description_in};
 ghost use Rattle.rt1553_verify.specs.Stated.{shown};
 ghost use Rattle.rt1553_verify.specs.declared.stated.StatedFault.TheVariants.{Memory};
-ghost use Rattle.tool_verify.specs.Passing.{IsExplaining, SaysOf, is_later, recording_kind, scoped, test_kind};
+ghost use Rattle.rt1553_report.specs.Verdict.{verdict_of};
+ghost use Rattle.tool_verify.specs.Passing.{IsExplaining, SaysOf, is_later, recording_kind, scoped, test_kind, unjudged_by, unjudged_since, unjudged_test};
 ghost use Rattle.tool_verify.specs.declared.compared.ScriptFault.TheVariants.{Stated, Recording};
 
 use bus_legal::Normal;
+use rt1553_report::Unjudged;
 use rt1553_tool_args::ScriptKind;
 use rt1553_verify::{
     ScriptWarning, Stated, StatedFault, WrongAnswer, answers_in, message_commands, read_stated,
@@ -19,24 +21,15 @@ use script_recordings::{
 use std::alloc::{AllocError, AllocFailed, Global};
 use std::io::{BufRead, BufReader, Read};
 
-/// Which part of a recording that began at any time is judged.
-#[derive(Clone, Copy, Debug, PartialEq, Eq)]
-pub enum JudgedPart {
-    /// What comes after the slot of this line, which ends a pause.
-    After(u64),
-    /// None: no part of it begins afresh after a pause.
-    Nothing,
-}
-
 /// A script that was compared.
 #[derive(Drop)]
 pub struct Compared {
     /// How many answers it states.
     pub answers: usize,
-    /// Why that shows nothing, or little, where it does.
-    pub warning: Option<ScriptWarning>,
-    /// Of a recording that began at any time, the part that is judged.
-    pub part: Option<JudgedPart>,
+    /// Why nothing of it is judged, where nothing differs.
+    pub unjudged: Option<Unjudged>,
+    /// Of a recording that began at any time: the line of the slot after which its part comes that is judged.
+    pub after: Option<u64>,
     pub wrong: Vec<WrongAnswer>,
     /// The command word of the message to which each event belongs that was answered otherwise.
     pub commands: Vec<Option<u16>>,
@@ -94,6 +87,33 @@ fn scoped(alloc: Global, on_bus: bool, stated: Vec<Stated>) -> Result<Vec<Stated
     }
 }
 
+/// Why nothing of a script is judged, by a warning of it.
+fn unjudged_by(warning: Option<ScriptWarning>) -> Option<Unjudged>
+    ensures { result ≡ unjudged_by warning }
+{
+    match warning {
+        Some(warning) => Some(Unjudged::Unstated(warning)),
+        None => None,
+    }
+}
+
+/// The same of a test.
+fn unjudged_test(stated: &[Stated]) -> Option<Unjudged>
+    ensures { result ≡ unjudged_test (Ok (map shown stated.now)) }
+{
+    unjudged_by(script_warning(stated))
+}
+
+/// The same of a recording that began at any time, which is judged after this line.
+fn unjudged_since(after: Option<u64>, warning: Option<ScriptWarning>) -> Option<Unjudged>
+    ensures { result ≡ unjudged_since after warning }
+{
+    match after {
+        Some(_) => unjudged_by(warning),
+        None => Some(Unjudged::NoPart),
+    }
+}
+
 /// Plays a test to a terminal, and compares its answers with what the test states, or with what the bus alone shows of that.
 fn compare_test(
     alloc: Global,
@@ -101,18 +121,18 @@ fn compare_test(
     script: &[u8],
     on_bus: bool,
 ) -> Result<Compared, ScriptFault>
-    ensures { IfOk result (λ it. SaysOf (test_kind on_bus) normal.now script.now (length it.wrong.items == 0)) }
+    ensures { IfOk result (λ it. SaysOf (test_kind on_bus) normal.now script.now (verdict_of (length it.wrong.items == 0) it.unjudged)) }
 {
     let stated = read_stated(alloc, script)?;
     let answers = answers_in(stated.as_slice());
-    let warning = script_warning(stated.as_slice());
+    let unjudged = unjudged_test(stated.as_slice());
     let seen = scoped(alloc, on_bus, stated)?;
     let wrong = wrong_answers(alloc, normal, seen.as_slice())?;
     let commands = message_commands(alloc, normal.address(), seen.as_slice(), wrong.as_slice())?;
     Ok(Compared {
         answers,
-        warning,
-        part: None,
+        unjudged,
+        after: None,
         wrong,
         commands,
     })
@@ -122,11 +142,12 @@ fn compare_test(
 fn compared_recording(
     alloc: Global,
     answers: usize,
-    warning: Option<ScriptWarning>,
-    part: Option<JudgedPart>,
+    unjudged: Option<Unjudged>,
+    after: Option<u64>,
     first: Option<UnexplainedLine>,
 ) -> Result<Compared, AllocError>
-    ensures { IfOk result (λ it. (length it.wrong.items == 0 ≡ true) ↔ (first ≡ None)) }
+    ensures told { IfOk result (λ it. (length it.wrong.items == 0) ≡ is_none first) }
+    ensures unjudged { IfOk result (λ it. it.unjudged ≡ unjudged) }
 {
     let (mut wrong, mut commands) = (Vec::new(alloc), Vec::new(alloc));
     if let Some(UnexplainedLine { answer, command }) = first {
@@ -135,8 +156,8 @@ fn compared_recording(
     }
     Ok(Compared {
         answers,
-        warning,
-        part,
+        unjudged,
+        after,
         wrong,
         commands,
     })
@@ -148,14 +169,14 @@ pub fn compare_recording<B: BufRead + Drop>(
     normal: &Normal,
     input: B,
 ) -> Result<Compared, ScriptFault>
-    ensures { IfOk result (λ it. IfSome (B.remaining input) (λ script. SaysOf ScriptKind.Recording normal.now script (length it.wrong.items == 0))) }
+    ensures { IfOk result (λ it. IfSome (B.remaining input) (λ script. SaysOf ScriptKind.Recording normal.now script (verdict_of (length it.wrong.items == 0) it.unjudged))) }
 {
     let Explained {
         answers,
         warning,
         first,
     } = watch_recording(alloc, normal, input)?;
-    let it = compared_recording(alloc, answers, warning, None, first)?;
+    let it = compared_recording(alloc, answers, unjudged_by(warning), None, first)?;
     Ok(it)
 }
 
@@ -165,7 +186,7 @@ pub fn compare_later<B: BufRead + Drop>(
     normal: &Normal,
     input: B,
 ) -> Result<Compared, ScriptFault>
-    ensures { IfOk result (λ it. IfSome (B.remaining input) (λ script. SaysOf ScriptKind.LaterRecording normal.now script (length it.wrong.items == 0))) }
+    ensures { IfOk result (λ it. IfSome (B.remaining input) (λ script. SaysOf ScriptKind.LaterRecording normal.now script (verdict_of (length it.wrong.items == 0) it.unjudged))) }
 {
     let ExplainedSince {
         answers,
@@ -173,11 +194,8 @@ pub fn compare_later<B: BufRead + Drop>(
         after,
         first,
     } = watch_since(alloc, normal, input)?;
-    let part = match after {
-        Some(line) => JudgedPart::After(line),
-        None => JudgedPart::Nothing,
-    };
-    let it = compared_recording(alloc, answers, warning, Some(part), first)?;
+    let unjudged = unjudged_since(after, warning);
+    let it = compared_recording(alloc, answers, unjudged, after, first)?;
     Ok(it)
 }
 
@@ -188,7 +206,7 @@ fn compare_script(
     script: &[u8],
     kind: ScriptKind,
 ) -> Result<Compared, ScriptFault>
-    ensures { IfOk result (λ it. SaysOf kind normal.now script.now (length it.wrong.items == 0)) }
+    ensures { IfOk result (λ it. SaysOf kind normal.now script.now (verdict_of (length it.wrong.items == 0) it.unjudged)) }
 {
     match kind {
         ScriptKind::Test => compare_test(alloc, normal, script, false),
@@ -205,7 +223,7 @@ fn compare_read<B: BufRead + Drop>(
     input: B,
     is_later: bool,
 ) -> Result<Compared, ScriptFault>
-    ensures { IfOk result (λ it. IfSome (B.remaining input) (λ script. SaysOf (recording_kind is_later) normal.now script (length it.wrong.items == 0))) }
+    ensures { IfOk result (λ it. IfSome (B.remaining input) (λ script. SaysOf (recording_kind is_later) normal.now script (verdict_of (length it.wrong.items == 0) it.unjudged))) }
 {
     if is_later {
         compare_later(alloc, normal, input)
@@ -222,8 +240,8 @@ pub fn compare_open<F: Read + Drop>(
     rest: Option<F>,
     kind: ScriptKind,
 ) -> Result<Compared, ScriptFault>
-    ensures whole { IfOk result (λ it. rest ≡ None → SaysOf kind normal.now script.now (length it.wrong.items == 0)) }
-    ensures on { IfOk result (λ it. IfSome rest (λ file. IfSome (F.remaining file) (λ more. SaysOf (recording_kind (is_later kind)) normal.now (script.now ++ more) (length it.wrong.items == 0)))) }
+    ensures whole { IfOk result (λ it. rest ≡ None → SaysOf kind normal.now script.now (verdict_of (length it.wrong.items == 0) it.unjudged)) }
+    ensures on { IfOk result (λ it. IfSome rest (λ file. IfSome (F.remaining file) (λ more. SaysOf (recording_kind (is_later kind)) normal.now (script.now ++ more) (verdict_of (length it.wrong.items == 0) it.unjudged)))) }
 {
     let Some(rest) = rest else {
         return compare_script(alloc, normal, script, kind);

@@ -1,13 +1,14 @@
 //! The command `verify` in the formats that machines and managers read.
-ghost use Rattle.std.specs.Prelude.{◌≡◌, ◌≤◌, ◌↔◌, None, IfOk, IsErr, length, true};
-ghost use Rattle.rt1553_report.specs.Results.{outcome_passes};
-ghost use Rattle.tool_verify.specs.Passing.{SaysOf};
+ghost use Rattle.std.specs.Prelude.{◌≡◌, ◌≤◌, ◌↔◌, None, IfOk, IfSome, IsErr, length, true};
+ghost use Rattle.rt1553_report.specs.Results.{outcome_passes, outcome_verdict};
+ghost use Rattle.rt1553_report.specs.Verdict.{verdict_status};
+ghost use Rattle.tool_verify.specs.Passing.{HasVerdict};
 ghost use Rattle.tool_verify.specs.Digests.{HasScriptDigest};
 ghost use Rattle.tool_verify.specs.inner.Tried.{IsTried};
 
 use crate::head::{head_of, profile_digests};
 use crate::opened::OpenScript;
-use crate::verify::{Played, PlayedScript, PlayedTo, clauses_of, play_script};
+use crate::verify::{Played, PlayedScript, PlayedTo, clauses_of, joined_status, play_script};
 use ascii_json::json_line;
 use bus_legal::Normal;
 use drawing_boxes::DrawFault;
@@ -25,8 +26,7 @@ use std::format;
 use std::io::{Read, Write};
 use std::rt::Files;
 use tool_files::{
-    DIFFERENT, HashedReader, LoadedScript, ToolFault, refused_file, status_or_stop, worst,
-    write_bytes,
+    DIFFERENT, HashedReader, LoadedScript, ToolFault, refused_file, status_or_stop, write_bytes,
 };
 
 /// A script that was done: what came of it, and the status that it asks for.
@@ -102,7 +102,7 @@ fn outcome_of_script<R: AllocGlobal + Eprint, F: Read + Drop>(
     rest: Option<F>,
     drawn: bool,
 ) -> Result<ScriptOutcome, ToolFault>
-    ensures { IfOk result (λ outcome. rest ≡ None → SaysOf played.now.kind normal.now script.now.text.items (outcome_passes outcome)) }
+    ensures { IfOk result (λ outcome. rest ≡ None → HasVerdict played.now.kind normal.now script.now.text.items outcome) }
 {
     let drawn = drawn && rest.is_none();
     let it = play_script(rt, played, normal, name, script, rest)?;
@@ -113,7 +113,7 @@ fn outcome_of_script<R: AllocGlobal + Eprint, F: Read + Drop>(
     };
     Ok(ScriptOutcome::Played {
         answers: it.answers,
-        warning: it.warning,
+        unjudged: it.unjudged,
         wrong: wrong_in_file(rt.alloc(), script, it.wrong)?,
         names: it.names,
         rules: it.rules,
@@ -128,11 +128,15 @@ fn done_script<R: AllocGlobal + Eprint>(
 ) -> Result<DoneScript, ToolFault>
     ensures same { IfOk played (λ outcome. IfOk result (λ done. done.outcome ≡ outcome)) }
     ensures passes { IfOk result (λ done. (done.status ≡ 0) ↔ (outcome_passes done.outcome ≡ true)) }
+    ensures verdict { IfOk result (λ done. IfSome (outcome_verdict done.outcome) (λ verdict. done.status ≡ verdict_status verdict)) }
     ensures most { IfOk result (λ done. done.status ≤ 4) }
 {
     match played {
         Ok(outcome) => {
-            let status = if outcome.passes() { 0 } else { DIFFERENT };
+            let status = match outcome.verdict() {
+                Some(verdict) => verdict.status(),
+                None => DIFFERENT,
+            };
             Ok(DoneScript { outcome, status })
         }
         Err(fault) => {
@@ -204,7 +208,7 @@ fn play_hashed<R: AllocGlobal + Eprint, F: Read + Drop>(
     rest: Option<F>,
     drawn: bool,
 ) -> (Result<ScriptOutcome, ToolFault>, Option<[u8; 32]>)
-    ensures outcome { rest ≡ None → IfOk result.0 (λ outcome. SaysOf played.now.kind normal.now script.now.text.items (outcome_passes outcome)) }
+    ensures outcome { rest ≡ None → IfOk result.0 (λ outcome. HasVerdict played.now.kind normal.now script.now.text.items outcome) }
     ensures digest { rest ≡ None → HasScriptDigest script.now result.1 }
 {
     match rest {
@@ -290,6 +294,7 @@ fn report_file<R: Files + AllocGlobal + Eprint>(
     name: &str,
 ) -> Result<(ScriptResult, u8), ToolFault>
     ensures passes { IfOk result (λ r. (r.1 ≡ 0) ↔ (outcome_passes r.0.outcome ≡ true)) }
+    ensures verdict { IfOk result (λ r. IfSome (outcome_verdict r.0.outcome) (λ verdict. r.1 ≡ verdict_status verdict)) }
     ensures most { IfOk result (λ r. r.1 ≤ 4) }
 {
     let tried = match played.open(rt, name) {
@@ -345,7 +350,7 @@ pub fn put_kept<W: Write>(
     write_bytes(output, text.as_str().as_bytes())
 }
 
-/// Plays scripts of files, and writes what came of them. The status is the highest that a script asks for.
+/// Plays scripts of files, and writes what came of them. The status is that of all scripts together.
 pub fn report_files<R: Files + AllocGlobal + Eprint, W: Write>(
     rt: &R,
     played: &Played<'_>,
@@ -360,7 +365,7 @@ pub fn report_files<R: Files + AllocGlobal + Eprint, W: Write>(
     let mut status = 0;
     for name in names {
         let (of, of_file) = report_file(rt, played, asked, name)?;
-        status = worst(status, of_file);
+        status = joined_status(status, of_file);
         put_or_keep(rt.alloc(), asked.format, head, of, &mut kept, output)?;
     }
     put_kept(rt.alloc(), asked.format, head, kept.as_slice(), output)?;

@@ -1,10 +1,11 @@
 //! The command `verify`: scripts that state their answers are played.
 ghost use Rattle.std.specs.Prelude.{◌≡◌, ◌⊎◌, ◌≤◌, ◌==◌, None, IfOk, length};
+ghost use Rattle.rt1553_report.specs.Verdict.{verdict_of};
 ghost use Rattle.tool_files.specs.Loaded.{IsLoadedFile};
 ghost use Rattle.tool_files.specs.Status.{tool_status};
-ghost use Rattle.tool_verify.specs.Passing.{IsPlayedTo, SaysOf, recording_status, script_status};
+ghost use Rattle.tool_verify.specs.Passing.{IsGraver, IsPlayedTo, SaysOf, recording_status, script_status};
 
-use crate::compared::{JudgedPart, ScriptFault, compare_open, explaining_script};
+use crate::compared::{Compared, ScriptFault, compare_open, explaining_script};
 use crate::head::loaded_names;
 use crate::opened::{OpenScript, open_script};
 use crate::report::report_files;
@@ -14,18 +15,20 @@ use bus_legal::Normal;
 use line_format::after;
 use message_names::{MessageNames, owned};
 use rt1553_files::escaped;
-use rt1553_report::{AnswerNames, TriedScript, clauses_in, difference_told, name_at};
+use rt1553_report::{
+    AnswerNames, ScriptVerdict, TriedScript, Unjudged, clauses_in, difference_told, name_at,
+};
 use rt1553_tool_args::{AskedReport, AskedWitness, Profiles, ReportFormat, ScriptKind};
-use rt1553_verify::{ScriptWarning, WrongAnswer, named};
+use rt1553_verify::{WrongAnswer, named};
 use script_recordings::RecordingFault;
 use std::alloc::{AllocError, Global};
 use std::format;
 use std::io::{Read, Write};
 use std::rt::Files;
 use tool_files::{
-    DIFFERENT, Ink, LoadedProfile, LoadedScript, Screen, ToolFault, load_profile_file, load_script,
-    put_in, read_script_file, refused_file, refused_line, shown, stated_fault, status_or_stop,
-    worst, write_bytes,
+    Ink, LoadedProfile, LoadedScript, Screen, ToolFault, load_profile_file, load_script, put_in,
+    read_script_file, refused_file, refused_line, shown, stated_fault, status_or_stop, worst,
+    write_bytes,
 };
 use tool_names::{LoadedNames, name_of_command};
 
@@ -57,6 +60,9 @@ struct ScriptReport {
     each: bool,
     has_colours: bool,
 }
+
+/// The status of a script of which nothing is judged.
+const NOT_JUDGED: u8 = 3;
 
 /// Why a script is refused that names no profile.
 const NO_PROFILE: &str = "script: no line '# Profile: NAME' at its front";
@@ -154,24 +160,28 @@ fn put_wrong_answer<W: Write>(
     write_bytes(output, text.as_str().as_bytes())
 }
 
-/// Writes how many answers of a file differ, or, where it is asked for, that it passes with so many.
-fn put_count<W: Write>(
+/// Writes how many answers of a file differ, or that nothing of it is judged, or, where it is asked for, that it passes.
+fn put_verdict<W: Write>(
     alloc: Global,
     output: &mut W,
     name: &str,
-    count: usize,
-    answers: usize,
+    it: &PlayedScript,
     report: ScriptReport,
 ) -> Result<(), ToolFault> {
-    let (ink, text) = if count > 0 {
-        (Ink::Red, format!(in alloc; "differences: {count}")?)
-    } else if report.each {
-        (
+    let (ink, text) = match it.verdict() {
+        ScriptVerdict::Failed => (
+            Ink::Red,
+            format!(in alloc; "differences: {}", it.wrong.len())?,
+        ),
+        ScriptVerdict::NotJudged(why) => (
+            Ink::Red,
+            format!(in alloc; "not judged: {}", why.text())?,
+        ),
+        ScriptVerdict::Passed if report.each => (
             Ink::Green,
-            format!(in alloc; "passed (answers: {answers})")?,
-        )
-    } else {
-        return Ok(());
+            format!(in alloc; "passed (answers: {})", it.answers)?,
+        ),
+        ScriptVerdict::Passed => return Ok(()),
     };
     write_bytes(output, name.as_bytes())?;
     write_bytes(output, b": ")?;
@@ -194,6 +204,7 @@ pub fn recording_fault<R: AllocGlobal>(
         | RecordingFault::NoWord(line) => {
             refused_line(rt, name, script.line_in_file(line), &fault)
         }
+        RecordingFault::TooManyWays => refused_file(rt, name, &fault),
         RecordingFault::Script(fault) => stated_fault(rt, name, script, fault),
     }
 }
@@ -218,13 +229,22 @@ fn script_fault<R: AllocGlobal>(
 pub struct PlayedScript {
     /// How many answers it states.
     pub answers: usize,
-    /// Why that shows nothing, or little, where it does.
-    pub warning: Option<ScriptWarning>,
+    /// Why nothing of it is judged, where nothing differs.
+    pub unjudged: Option<Unjudged>,
     pub wrong: Vec<WrongAnswer>,
     /// The names of the messages of these events, where there are names.
     pub names: Option<AnswerNames>,
     /// The rules under which these events stand.
     pub rules: AnswerNames,
+}
+
+impl PlayedScript {
+    /// The verdict on it.
+    pub fn verdict(&self) -> ScriptVerdict
+        ensures { result ≡ verdict_of (length self.now.wrong.items == 0) self.now.unjudged }
+    {
+        ScriptVerdict::of(self.wrong.is_empty(), self.unjudged)
+    }
 }
 
 /// The text of the comment that a line is; None for any other line, and for one that names the profile.
@@ -284,33 +304,29 @@ fn names_of(
     Ok(Some(AnswerNames { names: list }))
 }
 
-/// Tells, on the standard error, which part of a recording that began at any time is judged.
-fn tell_part<R: AllocGlobal + Eprint>(
+/// Tells, on the standard error, what a script in which something differs lacks to be judged; and which part of a recording that began
+/// at any time is judged.
+fn tell_judged<R: AllocGlobal + Eprint>(
     rt: &R,
     name: &str,
     script: &LoadedScript,
-    part: Option<JudgedPart>,
+    it: &Compared,
 ) -> Result<(), ToolFault> {
-    let Some(part) = part else {
-        return Ok(());
-    };
     let name = shown(rt, name)?;
-    match part {
-        JudgedPart::After(line) => {
-            let line = script.line_in_file(line);
-            let _ = eprintln!(rt; "{name}: judged after line {line}");
-        }
-        JudgedPart::Nothing => {
-            let _ = eprintln!(rt;
-                "{name}: warning: nothing is judged: no part begins afresh after a pause"
-            );
-        }
+    if let Some(why) = it.unjudged
+        && !it.wrong.is_empty()
+    {
+        let _ = eprintln!(rt; "{name}: warning: {}", why.text());
+    }
+    if let Some(line) = it.after {
+        let line = script.line_in_file(line);
+        let _ = eprintln!(rt; "{name}: judged after line {line}");
     }
     Ok(())
 }
 
-/// Plays a script of this name to a terminal, and warns, on the standard error, of one that shows nothing, or little. The script goes on
-/// in `rest` if that is there.
+/// Plays a script of this name to a terminal, and tells, on the standard error, what of it is judged. The script goes on in `rest` if that
+/// is there.
 pub fn play_script<R: AllocGlobal + Eprint, F: Read + Drop>(
     rt: &R,
     played: &Played<'_>,
@@ -319,7 +335,7 @@ pub fn play_script<R: AllocGlobal + Eprint, F: Read + Drop>(
     script: &LoadedScript,
     rest: Option<F>,
 ) -> Result<PlayedScript, ToolFault>
-    ensures { IfOk result (λ it. rest ≡ None → SaysOf played.now.kind normal.now script.now.text.items (length it.wrong.items == 0)) }
+    ensures { IfOk result (λ it. rest ≡ None → SaysOf played.now.kind normal.now script.now.text.items (verdict_of (length it.wrong.items == 0) it.unjudged)) }
 {
     let text = script.text.as_slice();
     match compare_open(rt.alloc(), normal, text, rest, played.kind) {
@@ -329,21 +345,17 @@ pub fn play_script<R: AllocGlobal + Eprint, F: Read + Drop>(
                 played.message_names(),
                 compared.commands.as_slice(),
             )?;
-            if let Some(warning) = compared.warning {
-                let name = shown(rt, name)?;
-                let _ = eprintln!(rt; "{name}: warning: {}", warning.text());
-            }
             if matches!(
                 played.kind,
                 ScriptKind::Recording | ScriptKind::LaterRecording
             ) {
                 warn_of_hand_overs(rt, name, text)?;
             }
-            tell_part(rt, name, script, compared.part)?;
+            tell_judged(rt, name, script, &compared)?;
             let rules = rules_of(rt.alloc(), text, compared.wrong.as_slice())?;
             Ok(PlayedScript {
                 answers: compared.answers,
-                warning: compared.warning,
+                unjudged: compared.unjudged,
                 wrong: compared.wrong,
                 names,
                 rules,
@@ -353,7 +365,8 @@ pub fn play_script<R: AllocGlobal + Eprint, F: Read + Drop>(
     }
 }
 
-/// Plays a script, writes where it differs, or, where it is asked for, that it passes, and gives whether it does.
+/// Plays a script, writes where it differs, or that nothing of it is judged, or, where it is asked for, that it passes, and gives the
+/// verdict on it.
 fn tell_script<R: Files + AllocGlobal + Eprint, W: Write>(
     rt: &R,
     played: &Played<'_>,
@@ -362,8 +375,8 @@ fn tell_script<R: Files + AllocGlobal + Eprint, W: Write>(
     rest: Option<R::File>,
     report: ScriptReport,
     output: &mut W,
-) -> Result<bool, ToolFault>
-    ensures { IfOk result (λ passes. (profile : LoadedProfile) × IsPlayedTo played.now.to profile × (rest ≡ None → SaysOf played.now.kind profile.normal script.now.text.items passes)) }
+) -> Result<ScriptVerdict, ToolFault>
+    ensures { IfOk result (λ verdict. (profile : LoadedProfile) × IsPlayedTo played.now.to profile × (rest ≡ None → SaysOf played.now.kind profile.normal script.now.text.items verdict)) }
 {
     let profile = played.of_script(rt, name, script.text.as_slice())?;
     let it = play_script(rt, played, &profile.normal, name, script, rest)?;
@@ -373,15 +386,8 @@ fn tell_script<R: Files + AllocGlobal + Eprint, W: Write>(
         let message = name_at(&it.names, index);
         put_wrong_answer(rt.alloc(), output, name.as_str(), line, wrong, message)?;
     }
-    put_count(
-        rt.alloc(),
-        output,
-        name.as_str(),
-        it.wrong.len(),
-        it.answers,
-        report,
-    )?;
-    Ok(it.wrong.is_empty())
+    put_verdict(rt.alloc(), output, name.as_str(), &it, report)?;
+    Ok(it.verdict())
 }
 
 /// Gives the clauses that a script names, of the test plan or of the standard; none where it names none.
@@ -392,19 +398,33 @@ pub fn clauses_of(script: &[u8]) -> &[u8] {
     }
 }
 
-/// Keeps which clauses a script names and whether it passes.
+/// Keeps which clauses a script names and the verdict on it.
 fn keep(
     alloc: Global,
     tried: &mut Vec<TriedScript>,
     script: &[u8],
-    passes: bool,
+    verdict: Option<ScriptVerdict>,
 ) -> Result<(), AllocError> {
     let clauses = clauses_in(alloc, clauses_of(script))?;
-    tried.push(TriedScript { clauses, passes })?;
+    tried.push(TriedScript { clauses, verdict })?;
     Ok(())
 }
 
-/// Plays a script of a file, keeps whether it passes, and gives the status to end with.
+/// The status of two scripts together: the graver one. That nothing is judged counts more than 0 and less than 1.
+pub fn joined_status(a: u8, b: u8) -> u8
+    ensures status { IsGraver a b result }
+    ensures most { a ≤ 4 → b ≤ 4 → result ≤ 4 }
+{
+    if a == NOT_JUDGED {
+        return if b == 0 { a } else { b };
+    }
+    if b == NOT_JUDGED {
+        return if a == 0 { b } else { a };
+    }
+    worst(a, b)
+}
+
+/// Plays a script of a file, keeps the verdict on it, and gives the status to end with.
 fn play_file<R: Files + AllocGlobal + Eprint, W: Write>(
     rt: &R,
     played: &Played<'_>,
@@ -413,22 +433,22 @@ fn play_file<R: Files + AllocGlobal + Eprint, W: Write>(
     tried: &mut Vec<TriedScript>,
     output: &mut W,
 ) -> Result<u8, ToolFault>
-    ensures { IfOk result (λ status. status ≤ 1) }
+    ensures { IfOk result (λ status. (status ≤ 1) ⊎ (status ≡ 3)) }
 {
     let OpenScript { script, rest } = match played.open(rt, name) {
         Ok(opened) => opened,
         Err(fault) => {
-            keep(rt.alloc(), tried, b"", false)?;
+            keep(rt.alloc(), tried, b"", None)?;
             return Err(fault);
         }
     };
     let outcome = tell_script(rt, played, name, &script, rest, report, output);
-    let passes = match &outcome {
-        Ok(passes) => *passes,
-        Err(_) => false,
+    let verdict = match &outcome {
+        Ok(verdict) => Some(*verdict),
+        Err(_) => None,
     };
-    keep(rt.alloc(), tried, script.text.as_slice(), passes)?;
-    Ok(if outcome? { 0 } else { DIFFERENT })
+    keep(rt.alloc(), tried, script.text.as_slice(), verdict)?;
+    Ok(outcome?.status())
 }
 
 /// Plays scripts of files, and gives the status to end with.
@@ -445,7 +465,7 @@ fn play_files<R: Files + AllocGlobal + Eprint, W: Write>(
     let mut status = 0;
     for name in names {
         let of_file = play_file(rt, played, name, report, &mut tried, output);
-        status = worst(status, status_or_stop(rt, of_file)?);
+        status = joined_status(status, status_or_stop(rt, of_file)?);
     }
     if report.each {
         put_summary(rt.alloc(), tried.as_slice(), report.has_colours, output)?;
@@ -454,7 +474,7 @@ fn play_files<R: Files + AllocGlobal + Eprint, W: Write>(
 }
 
 /// Plays scripts that state their answers and writes what came of them: as text where they differ, and with `summary` also what passes,
-/// clause by clause; in another format all. The status is the highest that a script asks for.
+/// clause by clause; in another format all. The status is that of all scripts together.
 pub fn verify_scripts<R: Files + AllocGlobal + Eprint, W: Write>(
     rt: &R,
     asked: AskedReport<'_>,
@@ -490,14 +510,14 @@ pub fn verify_scripts<R: Files + AllocGlobal + Eprint, W: Write>(
 }
 
 /// Writes a script that explains a recording: what is seen there, and before it what the subsystem did. Where nothing explains it, the
-/// first line that is not explained is written in its place, as by `verify_scripts`.
+/// first line that is not explained is written in its place, or that nothing is judged, as by `verify_scripts`.
 pub fn explain_recording<R: Files + AllocGlobal + Eprint, W: Write>(
     rt: &R,
     asked: AskedWitness<'_>,
     screen: Screen,
     output: &mut W,
 ) -> Result<u8, ToolFault>
-    ensures { IfOk result (λ status. status ≤ 1) }
+    ensures { IfOk result (λ status. (status ≤ 1) ⊎ (status ≡ 3)) }
 {
     let profile = load_profile_file(rt, asked.profile)?;
     let normal = profile.normal;
@@ -512,8 +532,9 @@ pub fn explain_recording<R: Files + AllocGlobal + Eprint, W: Write>(
         has_colours: screen.has_colours,
     };
     let script = load_script(rt, asked.script, played.expands_for(rt, asked.script)?)?;
-    if !tell_script(rt, &played, asked.script, &script, None, report, output)? {
-        return Ok(DIFFERENT);
+    let verdict = tell_script(rt, &played, asked.script, &script, None, report, output)?;
+    if verdict != ScriptVerdict::Passed {
+        return Ok(verdict.status());
     }
     match explaining_script(rt.alloc(), &normal, script.text.as_slice(), asked.kind) {
         Ok(text) => {

@@ -10,4 +10,6 @@ with_counts c d = record {
   illegal = saturated (c.illegal + d.illegal);
   blocked = saturated (c.blocked + d.blocked);
   done = saturated (c.done + d.done);
+  superseded = saturated (c.superseded + d.superseded);
+  left_open = saturated (c.left_open + d.left_open);
 }

@@ -57,10 +57,10 @@ placed_from n (r ∷ rs) = placed_exchange n r.exchange (slots_of r) ++ placed_f
 abbrev pub word_in_slot : ℕ → ℕ → Sending
 word_in_slot slot bits = sending A (if slot == 0 then Com else Dat) bits
 
--- no word that was seen is left open
+-- all that was seen came, and no word is left open
 abbrev pub NoneIsOpen : List Marked → Type 0
 NoneIsOpen [] = Unit {0}
-NoneIsOpen (m ∷ ms) = (m.any_word ≡ false) × NoneIsOpen ms
+NoneIsOpen (m ∷ ms) = ((m.any_word ≡ false) × (m.is_maybe ≡ false)) × NoneIsOpen ms
 
 -- a watch of the terminal of a `Normal` has seen these of it from power-up
 abbrev pub WatchesAll : Description → List PlacedSighting → Watch Parts → Type 0

@@ -4,7 +4,9 @@ use Rattle.recorded_terminal.specs.declared.watch.Marked.{Marked}
 use Rattle.recorded_terminal.specs.declared.watch.Unexplained.{Unexplained}
 use Rattle.recorded_terminal.specs.declared.later.FreshPart.{FreshPart}
 use Rattle.recorded_terminal.specs.SentWords.{word_shown}
-use Rattle.recorded_terminal.specs.Watched.{masked}
+use Rattle.recorded_terminal.specs.Marks.{masked, maybe}
+use Rattle.recorded_terminal.specs.declared.watch.WatchFault.{WatchFault}
+use Rattle.recorded_terminal.specs.declared.watch.WatchFault.TheVariants as watch
 use Rattle.rt1553_verify.specs.declared.stated.StatedFault.{StatedFault}
 use Rattle.rt1553_verify.specs.declared.stated.StatedFault.TheVariants.{Memory, Read}
 use Rattle.rt1553_verify.specs.Stated.{StatedEvent, then_events}
@@ -12,15 +14,20 @@ use Rattle.rt1553_verify.specs.Verify.{told_answer}
 use Rattle.script_recordings.specs.declared.explaining.UnexplainedLine.{UnexplainedLine}
 use Rattle.script_recordings.specs.Explained.{told_at}
 use Rattle.script_recordings.specs.declared.reading.RecordingFault.{RecordingFault}
-use Rattle.script_recordings.specs.declared.reading.RecordingFault.TheVariants.{Script}
-use Rattle.script_recordings.specs.Seen.{IsSeenAs, IsUnseenAs}
+use Rattle.script_recordings.specs.declared.reading.RecordingFault.TheVariants.{Script, TooManyWays}
+use Rattle.script_recordings.specs.Seen.{IsToldAs, IsUnseenAs}
 
 abbrev pub Left : Type 0
 Left = Option (Result (List StatedEvent) StatedFault)
 
--- an event is stated so, in this line
+-- a fault of a watch
+abbrev pub watch_fault_of : WatchFault → RecordingFault
+watch_fault_of watch.Memory = Script Memory
+watch_fault_of watch.TooManyWays = TooManyWays
+
+-- an event is told so, in this line
 abbrev pub IsMarkedAs : StatedEvent → Marked → Type 0
-IsMarkedAs s m = IsSeenAs s (masked m) × (m.line ≡ s.line)
+IsMarkedAs s m = IsToldAs s (maybe m) × (m.line ≡ s.line)
 
 -- the fault says nothing of the script
 abbrev pub SaysNothing : RecordingFault → Type 0

@@ -7,8 +7,8 @@ loop-event-init g c = λ P h stands. counted_none g.L.Legality.is_legal P h c.ar
 pub loop-event-preserved : goal.loop-event-preserved
 loop-event-preserved g c = λ P h stands.
     let i = c.loop-event in
-    counted_next g.L.Legality.is_legal P h c.args.events.now i.event-index c.event-item.result _ _ c.args.coverage.now i.coverage c.note.new.self c.ending.result c.loop-event-test.true c.event-item.is (i.invariant P h stands) (c.ending.ensures P) c.note.ensures
-    (c.take.ensures.takes P)
+    counted_next g.L.Legality.is_legal P h c.args.events.now i.event-index c.event-item.result _ _ c.args.coverage.now i.coverage c.note.new.self c.take_event.result c.loop-event-test.true c.event-item.is (i.invariant P h stands) (c.take_event.ensures.end P) c.note.ensures
+    (c.take_event.ensures.stands P)
 
 pub returns-clause-counts : goal.returns-clause-counts
 returns-clause-counts g c = λ P h ends stands.

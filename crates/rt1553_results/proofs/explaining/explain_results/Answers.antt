@@ -15,11 +15,11 @@ returns-in-Some-clause-refused c =
 pub returns-clause-explains : goal.returns-clause-explains
 returns-clause-explains c P reached =
     let D = description_in c.args.normal.now in
-    let w = c.in_ok-watch.ensures in
+    let w = c.in_ok-watch_results.ensures in
     let few : length (tried D) < 2 ^ 32 = subst (λ n. n < 2 ^ 32) c.in_ok-total.ensures.0 (omega arith) in
-    explains D P (answer c.args.results.now) w.0 c.end.result _ w.3.0 reached few w.1 (whole_decided D w.0 c.end.result w.2 (c.end.ensures.explained D [] w.0 w.3))
-    (whole_first D w.0 c.end.result w.2 (c.end.ensures.first D [] w.0 w.3)) c.first_told.ensures
+    explains D P (answer c.args.results.now) w.0 c.in_ok-unexplained.unexplained _ w.3.0 reached few w.1 (whole_decided D w.0 c.in_ok-unexplained.unexplained w.2 (c.in_ok-unexplained.ensures.first D [] w.0 w.3))
+    (whole_first D w.0 c.in_ok-unexplained.unexplained w.2 (c.in_ok-unexplained.ensures.first D [] w.0 w.3)) c.first_told.ensures
 
 pub returns-clause-missing : goal.returns-clause-missing
 returns-clause-missing c =
-    tells_missing (description_in c.args.normal.now) (answer c.args.results.now) c.end.result _ c.in_ok-total.ensures.0 c.in_ok-total.ensures.1 c.in_default.ensures c.first_told.ensures
+    tells_missing (description_in c.args.normal.now) (answer c.args.results.now) c.in_ok-unexplained.unexplained _ c.in_ok-total.ensures.0 c.in_ok-total.ensures.1 c.in_default.ensures c.first_told.ensures

@@ -5,26 +5,27 @@ use Rattle.bus_legal.specs.Tables.{tables_say}
 use Rattle.rt1553.proofs.EngineLaws.{set_up_alike}
 use Rattle.rt1553_verify.specs.Reader.{left_in}
 use Rattle.script_recordings.specs.inner.Reads.{NextSeen}
-use Rattle.script_recordings.proofs.ReadLaws.{read_none, read_more, read_fault}
+use Rattle.script_recordings.proofs.ReadLaws.{read_none, read_more, read_fault, watch_refused}
 use Rattle.script_recordings.proofs.ExplainedLaws.{explained_all, first_all}
 use Rattle.script_recordings.proofs.explaining.watch_recording.Goals as goal
 
 pub sightings-init : goal.sightings-init
-sightings-init g c = ([], λ Q w. w, read_none (g.B.Read.remaining c.args.input) (left_in g.B.Read.remaining c.new-reader.result.script) c.new-reader.ensures.reads)
+sightings-init g c = ([], λ Q w. w, read_none (g.B.Read.remaining c.args.input) (left_in g.B.Read.remaining c.new-reader.result.script) c.new-reader.ensures.reads, c.new-tally.ensures)
 
 pub sightings-preserved : goal.sightings-preserved
 sightings-preserved g c =
     let i = c.sightings.invariant in (
       i.0 ++ c.in-Some.marked ∷ [],
-      λ Q w. c.in_ok-see.ensures Q [] i.0 (i.1 Q w),
+      λ Q w. c.in_ok-see.ensures.sees Q [] i.0 (i.1 Q w),
       read_more (g.B.Read.remaining c.args.input) (left_in g.B.Read.remaining c.sightings.reader.script) (left_in g.B.Read.remaining c.next.new.self.script) i.0 c.in-Some.marked i.2
           (subst (λ o. NextSeen (left_in g.B.Read.remaining c.sightings.reader.script) (left_in g.B.Read.remaining c.next.new.self.script) (Ok o)) c.in-Some.is c.in_ok-marked.ensures.next),
+      c.in_ok-take.ensures i.0 i.3,
     )
 
 pub returns-in_err-marked-clause-refused : goal.returns-in_err-marked-clause-refused
 returns-in_err-marked-clause-refused g c =
     let i = c.sightings.invariant in
-    let r = c.from_residual in
+    let r = c.from_residual-in_err-marked in
     let p = err_from_is_err_and r.result r.ensures.1 in
     rw (p.1, p.2) (read_fault (g.B.Read.remaining c.args.input) (left_in g.B.Read.remaining c.sightings.reader.script) (left_in g.B.Read.remaining c.next.new.self.script) i.0 _ i.2
     c.in_err-marked.ensures.next)
@@ -35,9 +36,10 @@ returns-clause-explained g c P reached =
     let v = c.args.normal.now in
     let Q : Description = described c.setup.result (tables_say v.tables) in
     let alike = set_up_alike v c.setup.result P c.setup.ensures.normal c.setup.ensures.parts c.setup.result.own_address reached in
-    explained_all (g.B.Read.remaining c.args.input) (left_in g.B.Read.remaining c.sightings.reader.script) (left_in g.B.Read.remaining c.next.new.self.script) i.0 c.end.result _ P Q alike i.2
+    explained_all (g.B.Read.remaining c.args.input) (left_in g.B.Read.remaining c.sightings.reader.script) (left_in g.B.Read.remaining c.next.new.self.script) i.0 c.in_ok-end.field-0 _ _ P Q alike i.2
     (subst (λ o. NextSeen (left_in g.B.Read.remaining c.sightings.reader.script) (left_in g.B.Read.remaining c.next.new.self.script) (Ok o)) c.in_default.is c.in_ok-marked.ensures.next)
-    c.in_ok-first_told.ensures (c.end.ensures.explained Q [] i.0 (i.1 Q c.power_up-watch.ensures))
+    c.in_ok-first_told.ensures (c.in_ok-end.ensures.first Q [] i.0 (i.1 Q c.in_ok-watch.ensures))
+    (c.warning_behind.ensures i.0 i.3)
 
 pub returns-clause-first : goal.returns-clause-first
 returns-clause-first g c P reached =
@@ -45,6 +47,26 @@ returns-clause-first g c P reached =
     let v = c.args.normal.now in
     let Q : Description = described c.setup.result (tables_say v.tables) in
     let alike = set_up_alike v c.setup.result P c.setup.ensures.normal c.setup.ensures.parts c.setup.result.own_address reached in
-    first_all (g.B.Read.remaining c.args.input) (left_in g.B.Read.remaining c.sightings.reader.script) (left_in g.B.Read.remaining c.next.new.self.script) i.0 c.end.result _ P Q alike i.2
+    first_all (g.B.Read.remaining c.args.input) (left_in g.B.Read.remaining c.sightings.reader.script) (left_in g.B.Read.remaining c.next.new.self.script) i.0 c.in_ok-end.field-0 _ P Q alike i.2
     (subst (λ o. NextSeen (left_in g.B.Read.remaining c.sightings.reader.script) (left_in g.B.Read.remaining c.next.new.self.script) (Ok o)) c.in_default.is c.in_ok-marked.ensures.next)
-    c.in_ok-first_told.ensures (c.end.ensures.first Q [] i.0 (i.1 Q c.power_up-watch.ensures))
+    c.in_ok-first_told.ensures (c.in_ok-end.ensures.first Q [] i.0 (i.1 Q c.in_ok-watch.ensures))
+
+pub returns-in_err-see-clause-refused : goal.returns-in_err-see-clause-refused
+returns-in_err-see-clause-refused g c =
+    let i = c.sightings.invariant in
+    let Q : Description = described c.setup.result (tables_say c.args.normal.now.tables) in
+    let r = c.from_residual-in_err-see in
+    let p = err_from_is_err_and r.result r.ensures.1 in
+    rw (p.1, p.2) (watch_refused (g.B.Read.remaining c.args.input) (left_in g.B.Read.remaining c.next.new.self.script) (i.0 ++ c.in-Some.marked ∷ []) _
+    (read_more (g.B.Read.remaining c.args.input) (left_in g.B.Read.remaining c.sightings.reader.script) (left_in g.B.Read.remaining c.next.new.self.script) i.0 c.in-Some.marked i.2
+    (subst (λ o. NextSeen (left_in g.B.Read.remaining c.sightings.reader.script) (left_in g.B.Read.remaining c.next.new.self.script) (Ok o)) c.in-Some.is c.in_ok-marked.ensures.next))
+    (λ same. c.in_err-see.ensures.refused same Q [] i.0 (i.1 Q c.in_ok-watch.ensures)))
+
+pub returns-in_err-end-clause-refused : goal.returns-in_err-end-clause-refused
+returns-in_err-end-clause-refused g c =
+    let i = c.sightings.invariant in
+    let Q : Description = described c.setup.result (tables_say c.args.normal.now.tables) in
+    let r = c.from_residual-in_err-end in
+    let p = err_from_is_err_and r.result r.ensures.1 in
+    rw (p.1, p.2) (watch_refused (g.B.Read.remaining c.args.input) (left_in g.B.Read.remaining c.sightings.reader.script) i.0 _ i.2
+    (λ same. c.in_err-end.ensures.refused same Q [] i.0 (i.1 Q c.in_ok-watch.ensures)))

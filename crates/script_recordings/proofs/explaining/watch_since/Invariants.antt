@@ -5,6 +5,7 @@ use Rattle.recorded_terminal.specs.declared.watch.Marked.{Marked}
 use Rattle.recorded_terminal.specs.Judged.{WatchesLater}
 use Rattle.rt1553_verify.specs.Reader.{left_in, turns_left}
 use Rattle.script_recordings.proofs.ReadLaws.{ReadSoFar}
+use Rattle.script_recordings.specs.inner.Tallies.{IsTally}
 use Rattle.script_recordings.proofs.explaining.watch_since.Given as goal
 
 abbrev pub invariant-sightings : goal.invariant-sightings
@@ -12,6 +13,7 @@ invariant-sightings g l =
     (ms : List Marked)
     × ((Q : Description) → WatchesLater (λ normal. tables_say normal.tables) Q [] l.initial.watch → WatchesLater (λ normal. tables_say normal.tables) Q ms l.watch)
     × ReadSoFar (g.B.Read.remaining l.fn.input) (left_in g.B.Read.remaining l.reader.script) ms
+    × IsTally ms l.tally
 
 abbrev pub decreases-sightings : goal.decreases-sightings
 decreases-sightings g l = turns_left l.reader.script

@@ -1,23 +1,57 @@
-use Rattle.std.proofs.Common.{◌∙◌, IfSome, List, drop, ap, subst}
+use Rattle.std.proofs.Common.{◌∙◌, None, List, drop, ap, subst}
+use Rattle.std.proofs.lemmas.Result.{err_from_is_err_and}
 use Rattle.bus_legal.specs.Parts.{description_in}
+use Rattle.terminal_recordings.specs.Later.{shut_history}
 use Rattle.recorded_terminal.specs.declared.watch.Marked.{Marked}
 use Rattle.recorded_terminal.specs.Behaviour.{IsBehaviourAfter}
 use Rattle.recorded_terminal.specs.Follows.{shut_down}
-use Rattle.recorded_terminal.specs.Judged.{IsJudged}
-use Rattle.recorded_terminal.specs.Watched.{seen_in}
+use Rattle.recorded_terminal.specs.Judged.{IsJudged, IsJudgedBy}
+use Rattle.recorded_terminal.specs.Marks.{HasMaybeGap, seen_in}
 use Rattle.script_lines.specs.EventLine.{script_text}
-use Rattle.script_recordings.proofs.SinceLaws.{later_witness_by}
+use Rattle.script_recordings.specs.inner.Settled.{IsSettled}
+use Rattle.script_recordings.proofs.ReadLaws.{settle_refused, memory_refused}
+use Rattle.script_recordings.proofs.SinceLaws.{no_part, later_witness_by, open_back_of}
 use Rattle.script_recordings.proofs.telling.witness_since.Goals as goal
+
+pub returns-in_default-clause-plays : goal.returns-in_default-clause-plays
+returns-in_default-clause-plays g c =
+    let D = description_in c.args.normal.now in
+    no_part (g.B.Read.remaining c.args.input) D c.in_ok-recording.recording.items c.in_ok-recording.ensures.read
+    (subst (λ (l : List Marked). IsJudgedBy D l None) c.as_slice.ensures.value (subst (IsJudgedBy D c.as_slice.result.now) c.in_default.is c.in_ok-part.ensures.judged))
 
 pub returns-clause-plays : goal.returns-clause-plays
 returns-clause-plays g c =
-    let v = c.args.normal.now in
+    let D = description_in c.args.normal.now in
     let ms : List Marked = c.in_ok-recording.recording.items in
-    let judged : IsJudged (description_in v) ms c.in-Some.part =
-    subst (λ (l : List Marked). IsJudged (description_in v) l c.in-Some.part) c.as_slice.ensures.value
-    (subst (λ o. IfSome o (IsJudged (description_in v) c.as_slice.result.now)) c.in-Some.is c.in_ok-part.ensures.judged) in
-    later_witness_by (g.B.Read.remaining c.args.input) (description_in v) ms c.in-Some.part c.in_ok-events.events.items _ c.in_ok-events.ensures.normal.address c.in_ok-recording.ensures.read
-    judged
-    (subst (λ (l : List Marked). IsBehaviourAfter (description_in v) (shut_down c.in-Some.part.shut) (seen_in (drop c.in-Some.part.before l)) c.in_ok-events.events.items) c.as_slice-2.ensures.value
-    c.in_ok-events.ensures.events)
-    (c.in_ok-script_of.ensures ∙ ap script_text c.as_slice-3.ensures.value)
+    let it = c.in-Some.part in
+    let judged : IsJudged D ms it = subst (λ (l : List Marked). IsJudged D l it) c.as_slice.ensures.value (subst (IsJudgedBy D c.as_slice.result.now) c.in-Some.is c.in_ok-part.ensures.judged) in
+    later_witness_by (g.B.Read.remaining c.args.input) D ms c.in_ok-settled.settled.items it c.in_ok-events.events.items _ c.in_ok-events.ensures.normal.address c.in_ok-recording.ensures.read judged
+    (subst (λ (l : List Marked). IsSettled D (shut_history D (shut_down it.shut)) l c.in_ok-settled.settled.items) (c.behind-behind.ensures ∙ ap (drop it.before) c.as_slice-2.ensures.value) c.in_ok-settled.ensures.settled)
+    (subst (λ (l : List Marked). IsBehaviourAfter D (shut_down it.shut) (seen_in l) c.in_ok-events.events.items) c.as_slice-3.ensures.value c.in_ok-events.ensures.events)
+    (c.in_ok-script_of.ensures ∙ ap script_text c.as_slice-4.ensures.value)
+
+pub returns-in_err-part-clause-refused : goal.returns-in_err-part-clause-refused
+returns-in_err-part-clause-refused g c =
+    let r = c.from_residual-in_err-part in
+    let p = err_from_is_err_and r.result r.ensures.1 in
+    rw (p.1, p.2) (settle_refused (g.B.Read.remaining c.args.input) c.in_ok-recording.recording.items _ c.in_ok-recording.ensures.read
+    (λ same. subst HasMaybeGap c.as_slice.ensures.value (c.in_err-part.ensures.refused same)))
+
+pub returns-in_err-settled-clause-refused : goal.returns-in_err-settled-clause-refused
+returns-in_err-settled-clause-refused g c =
+    let r = c.from_residual-in_err-settled in
+    let p = err_from_is_err_and r.result r.ensures.1 in
+    rw (p.1, p.2) (settle_refused (g.B.Read.remaining c.args.input) c.in_ok-recording.recording.items _ c.in_ok-recording.ensures.read
+    (λ same. open_back_of c.in_ok-recording.recording.items c.in-Some.part.before (subst HasMaybeGap (c.behind-behind.ensures ∙ ap (drop c.in-Some.part.before) c.as_slice-2.ensures.value) (c.in_err-settled.ensures.refused same))))
+
+pub returns-in_err-events-clause-refused : goal.returns-in_err-events-clause-refused
+returns-in_err-events-clause-refused g c =
+    let r = c.from_residual-in_err-events in
+    let p = err_from_is_err_and r.result r.ensures.1 in
+    rw (p.1, p.2) (memory_refused (g.B.Read.remaining c.args.input))
+
+pub returns-in_err-script_of-clause-refused : goal.returns-in_err-script_of-clause-refused
+returns-in_err-script_of-clause-refused g c =
+    let r = c.from_residual-in_err-script_of in
+    let p = err_from_is_err_and r.result r.ensures.1 in
+    rw (p.1, p.2) (memory_refused (g.B.Read.remaining c.args.input))

@@ -1,7 +1,8 @@
-use Rattle.std.proofs.Common.{◌==◌, length}
+use Rattle.std.proofs.Common.{◌==◌, length, ◌∙◌}
 use Rattle.tool_verify.proofs.PassingLaws.{says_recorded}
 use Rattle.tool_verify.proofs.compared.compare_recording.Goals as goal
 
 pub returns : goal.returns
 returns g c =
-    says_recorded (g.B.Read.remaining c.args.input) c.in_ok-answers.field-0.first (length c.in_ok-it.it.wrong.items == 0) c.in_ok-answers.ensures.explained c.in_ok-it.ensures
+    says_recorded (g.B.Read.remaining c.args.input) c.in_ok-answers.field-0.first c.in_ok-answers.field-0.warning (length c.in_ok-it.it.wrong.items == 0) c.in_ok-it.it.unjudged
+    c.in_ok-answers.ensures.explained c.in_ok-it.ensures.told (c.in_ok-it.ensures.unjudged ∙ c.unjudged_by.ensures)

@@ -14,5 +14,5 @@ returns-clause-next g c =
 pub returns-in-Ok-clause-message : goal.returns-in-Ok-clause-message
 returns-in-Ok-clause-message g c =
     let same : c.in-Ok.marked.command ≡ c.command_after-self.result = c.in-Ok.ensures.command in
-    let event = c.in-Ok.ensures.seen.0.event in
+    let event = c.in-Ok.ensures.event in
     (same ∙ c.command_after-self.ensures ∙ ap (λ e. command_after c.args.self.now.address c.args.self.now.command e) (sym event), sym same)

@@ -1,0 +1,23 @@
+use Rattle.std.proofs.Common.{◌≡◌, ◌∙◌, ◌++◌, ◌∷◌, [], suc, List, take, drop, ap, sym, subst, add-one, take_all, append_assoc, append-nil}
+use Rattle.bus_legal.specs.Tables.{tables_say}
+use Rattle.recorded_terminal.specs.declared.watch.Marked.{Marked}
+use Rattle.recorded_terminal.specs.Watched.{Watches}
+use Rattle.recorded_terminal.proofs.WayLaws.{cut_of, take_more}
+use Rattle.script_recordings.proofs.settling.see_all.Goals as goal
+
+pub sightings-init : goal.sightings-init
+sightings-init c P h ms watches = subst (λ (l : List Marked). Watches (λ normal. tables_say normal.tables) P h l c.args.watch.now) (sym (append-nil ms)) watches
+
+pub sightings-preserved : goal.sightings-preserved
+sightings-preserved c P h ms watches =
+    let xs : List Marked = c.args.recording.now in
+    let n = c.sightings.marked-index in
+    let m : Marked = c.marked-item.result in
+    let cut : drop n xs ≡ m ∷ drop (suc n) xs = cut_of xs n m c.sightings-test.true c.marked-item.is in
+    subst (λ (l : List Marked). Watches (λ normal. tables_say normal.tables) P h l c.see.new.self)
+    (append_assoc ms (take n xs) (m ∷ []) ∙ ap (λ l. ms ++ l) (sym (take_more xs n m cut) ∙ ap (λ k. take k xs) (sym (add-one n))))
+    (c.in_ok-see.ensures.sees P h (ms ++ take n xs) (c.sightings.invariant P h ms watches))
+
+pub returns : goal.returns
+returns c P h ms watches =
+    subst (λ (l : List Marked). Watches (λ normal. tables_say normal.tables) P h (ms ++ l) c.sightings.watch) (take_all c.sightings.marked-index c.args.recording.now c.sightings-test.false) (c.sightings.invariant P h ms watches)
