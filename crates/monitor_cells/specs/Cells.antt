@@ -80,12 +80,6 @@ kind_of_sync Command = Com
 kind_of_sync Data = Dat
 kind_of_sync Status = Com
 
--- it is that of a command word, and not of a status word
-abbrev pub is_of_command : WordSync → Bool
-is_of_command Command = true
-is_of_command Data = false
-is_of_command Status = false
-
 -- ---- words
 
 -- the word: four hexadecimal digits, small or capital, and perhaps `0x` or `0X` before them

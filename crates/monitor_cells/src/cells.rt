@@ -4,7 +4,7 @@ ghost use Rattle.std.specs.Char.{is_ascii_digit};
 ghost use Rattle.std.specs.Option.{SomeIff};
 ghost use Rattle.std.specs.List.{list_all, position_or_len, slice_split};
 ghost use Rattle.std.specs.Str.Parse.{digits_value};
-ghost use Rattle.monitor_cells.specs.Cells.{is_dot, is_time_byte, is_time_text, IsMicros, thousandths, is_fraction, IsTime, time_said, is_headed, bus_said, sync_said, kind_of_sync, is_of_command, word_said, words_listed};
+ghost use Rattle.monitor_cells.specs.Cells.{is_dot, is_time_byte, is_time_text, IsMicros, thousandths, is_fraction, IsTime, time_said, is_headed, bus_said, sync_said, kind_of_sync, word_said, words_listed};
 
 use arrayvec::ArrayString;
 use bus_word::{Bus, Kind};
@@ -46,13 +46,6 @@ pub fn kind_of_sync(sync: WordSync) -> Kind
         WordSync::Command | WordSync::Status => Kind::Com,
         WordSync::Data => Kind::Dat,
     }
-}
-
-/// Whether a sync is that of a command word, and not of a status word.
-pub fn is_of_command(sync: WordSync) -> bool
-    ensures { result ≡ is_of_command sync }
-{
-    matches!(sync, WordSync::Command)
 }
 
 /// Whether all bytes are decimal digits.

@@ -20,6 +20,10 @@ pub enum HeardItem {
     Reply(Sent),
     /// A word that the terminal sent too late for a reply.
     Late(Sent),
+    /// A slot in which the terminal sends nothing.
+    Slot,
+    /// A second gap on a bus, that may have come or not: the terminal may have given up waiting for the status word of another.
+    MaybeGap(Bus),
     /// The end of a pause, behind two gaps on each bus: in a slot nothing is sent.
     Pause,
 }

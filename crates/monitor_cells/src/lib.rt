@@ -6,12 +6,17 @@ mod heard;
 mod listening;
 mod seen;
 mod setup;
+mod silence;
 
 pub use cells::{
-    MonitorTime, TimeText, WordSync, is_headed, is_of_command, kind_of_sync, read_bus_cell,
-    read_sync_cell, read_time, read_word_cell, read_words_cell,
+    MonitorTime, TimeText, WordSync, is_headed, kind_of_sync, read_bus_cell, read_sync_cell,
+    read_time, read_word_cell, read_words_cell,
 };
 pub use heard::{HeardItem, is_command_sync, other_bus};
-pub use listening::{Listening, gap_if, has_passed, later_end, pause_if};
+pub use listening::{
+    Listening, becomes_longer, has_lasted, has_passed, is_before_end, is_meant_for, is_over_before,
+    later_end, word_end,
+};
 pub use seen::{SeenWord, WordRow};
-pub use setup::{RecordingSetup, WORD_TIME};
+pub use setup::{LONGEST_WAIT, RecordingSetup, SHORTEST_WAIT, WORD_TIME};
+pub use silence::{Silence, gap_if, maybe_gap_if, pause_if, slot_if};

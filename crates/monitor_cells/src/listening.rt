@@ -1,11 +1,12 @@
-//! Words by their times: gaps between them, and whose words they are.
+//! What is heard on two buses, by the last word on each.
 ghost use Rattle.std.specs.Prelude.{◌≡◌};
-ghost use Rattle.monitor_cells.specs.Listening.{word_end, no_times, times_on, with_times, is_silent_for, after_silence, is_gap_before, gap_if, pause_if, hushed, later_end, has_passed, is_pause_before, is_before_end, overlaps, speaker_of, speaker_with, heard_by, speaker_seen, heard_seen, counts, row_heard, row_known};
+ghost use Rattle.monitor_cells.specs.Listening.{word_end, has_passed, has_lasted, later_end, is_over_before, is_before_end, is_own_word, is_reply, counts, heard_time, end_of_word, time_of, silent_since, speaker_of, speaker_at, speaker_with, heard_by, speaker_seen, heard_seen, is_meant_for, is_contiguous, is_open_at, is_open_behind, last_on, with_last, listening_first, latest_time, row_heard, row_last, row_known, row_time, end_on, is_open_last, is_open_on, becomes_longer, falls_silent, is_pause_before, is_silent_reply, is_reply_over, has_slot_on, gives_up, may_give_up, other_until, first_gap_on, second_on, maybe_on, silence_before, last_silence};
 
 use crate::cells::{WordSync, kind_of_sync};
-use crate::heard::HeardItem;
+use crate::heard::{HeardItem, is_command_sync, other_bus};
 use crate::seen::{SeenWord, WordRow};
-use crate::setup::{RecordingSetup, TOLERANCE, WORD_TIME};
+use crate::setup::{LONGEST_WAIT, RecordingSetup, SHORTEST_WAIT, TOLERANCE, WORD_TIME};
+use crate::silence::{Silence, gap_if, maybe_gap_if, pause_if, slot_if};
 use bus_terminal::Sent;
 use bus_word::{Bus, Command};
 
@@ -20,26 +21,28 @@ pub enum Speaker {
     LateTerminal,
 }
 
-/// What was heard on a bus so far.
+/// The last word on a bus.
 #[derive(Clone, Copy)]
-pub struct BusTimes {
-    /// When the last word ends, if there was one.
-    pub end: Option<u64>,
-    /// Whether a word came since the last gap.
-    pub is_busy: bool,
-    /// Whose words they are.
+pub struct LastWord {
+    /// When its sync begins.
+    pub begin: u64,
+    /// What it was heard as.
+    pub heard: HeardItem,
+    /// Whose data words follow it without a gap.
     pub speaker: Speaker,
+    /// Whether a message to the terminal, or to all, is open behind it.
+    pub is_open: bool,
 }
 
 /// When a word ends that begins at this time.
-fn word_end(time: u64) -> u64
+pub fn word_end(time: u64) -> u64
     ensures { result ≡ word_end time }
 {
     time.saturating_add(WORD_TIME)
 }
 
 /// Whether a word that begins at this time begins before this end, if there was one, by more than what rounding makes of it.
-fn is_before_end(time: u64, end: Option<u64>) -> bool
+pub fn is_before_end(time: u64, end: Option<u64>) -> bool
     ensures { result ≡ is_before_end time end }
 {
     match end {
@@ -69,6 +72,113 @@ pub fn has_passed(end: Option<u64>, silence: u64, time: u64) -> bool
     }
 }
 
+/// Whether this or more lies between an end, if there was one, and a time.
+pub fn has_lasted(end: Option<u64>, silence: u64, time: u64) -> bool
+    ensures { result ≡ has_lasted end silence time }
+{
+    match end {
+        Some(end) => silence <= time.saturating_sub(end),
+        None => false,
+    }
+}
+
+/// Whether a silence behind an end, if there was one, becomes longer than this after one time, and not later than another.
+pub fn becomes_longer(end: Option<u64>, silence: u64, from: u64, until: u64) -> bool
+    ensures { result ≡ becomes_longer end silence from until }
+{
+    has_passed(end, silence, until) && !has_passed(end, silence, from)
+}
+
+/// Whether an end, if there was one, was before this time.
+pub fn is_over_before(end: Option<u64>, time: u64) -> bool
+    ensures { result ≡ is_over_before end time }
+{
+    match end {
+        Some(end) => end < time,
+        None => true,
+    }
+}
+
+/// Whether a command is for the terminal of this address, or for all.
+pub fn is_meant_for(address: u8, bits: u16) -> bool
+    ensures { result ≡ is_meant_for address bits }
+{
+    let command = Command::of(bits);
+    command.address() == address || command.address() == 31
+}
+
+/// Whether it is a word of the terminal.
+fn is_own_word(heard: &HeardItem) -> bool
+    ensures { result ≡ is_own_word heard.now }
+{
+    matches!(heard, HeardItem::Reply(_) | HeardItem::Late(_))
+}
+
+/// Whether it is a word of its reply.
+fn is_reply(heard: &HeardItem) -> bool
+    ensures { result ≡ is_reply heard.now }
+{
+    matches!(heard, HeardItem::Reply(_))
+}
+
+/// Whether what was heard is anything but a word that came too late.
+fn counts(heard: &HeardItem) -> bool
+    ensures { result ≡ counts heard.now }
+{
+    !matches!(heard, HeardItem::Late(_))
+}
+
+/// When a word that begins at this time is heard, or sent.
+fn heard_time(heard: &HeardItem, time: u64) -> u64
+    ensures { result ≡ heard_time heard.now time }
+{
+    if is_own_word(heard) {
+        time
+    } else {
+        word_end(time)
+    }
+}
+
+/// When the last word on a bus ends, if there was one.
+fn end_of_word(last: &Option<LastWord>) -> Option<u64>
+    ensures { result ≡ end_of_word last.now }
+{
+    match last {
+        Some(word) => Some(word_end(word.begin)),
+        None => None,
+    }
+}
+
+/// When it was heard, or sent; 0 if there was none.
+fn time_of(last: &Option<LastWord>) -> u64
+    ensures { result ≡ time_of last.now }
+{
+    match last {
+        Some(word) => heard_time(&word.heard, word.begin),
+        None => 0,
+    }
+}
+
+/// Since when the bus is silent. Nothing is heard of a silence behind a word that came too late.
+fn silent_since(last: &Option<LastWord>) -> Option<u64>
+    ensures { result ≡ silent_since last.now }
+{
+    match last {
+        Some(word) if counts(&word.heard) => Some(word_end(word.begin)),
+        _ => None,
+    }
+}
+
+/// Whether a message to the terminal is open behind the last word on a bus.
+fn is_open_last(last: &Option<LastWord>) -> bool
+    ensures { result ≡ is_open_last last.now }
+{
+    match last {
+        Some(word) => word.is_open,
+        None => false,
+    }
+}
+
 /// The terminal, in time or too late.
 fn speaker_of(is_late: bool) -> Speaker
     ensures { result ≡ speaker_of is_late }
@@ -92,126 +202,122 @@ fn heard_by(speaker: Speaker, bus: Bus, sync: WordSync, bits: u16) -> HeardItem
     }
 }
 
-/// Whether what was heard is anything but a word that came too late.
-fn counts(heard: &HeardItem) -> bool
-    ensures { result ≡ counts heard.now }
-{
-    !matches!(heard, HeardItem::Late(_))
-}
-
-/// A gap on a bus, if there is one.
-pub fn gap_if(is_gap: bool, bus: Bus) -> Option<HeardItem>
-    ensures { result ≡ gap_if is_gap bus }
-{
-    if is_gap {
-        Some(HeardItem::Gap(bus))
-    } else {
-        None
-    }
-}
-
-/// The end of a pause, if there is one.
-pub fn pause_if(is_pause: bool) -> Option<HeardItem>
-    ensures { result ≡ pause_if is_pause }
-{
-    if is_pause {
-        Some(HeardItem::Pause)
-    } else {
-        None
-    }
-}
-
-impl BusTimes {
-    /// Nothing.
-    fn nothing() -> BusTimes
-        ensures { result ≡ no_times }
+impl RecordingSetup {
+    /// Whose data words come at this time.
+    fn speaker_at(&self, last: &Option<LastWord>, time: u64) -> Speaker
+        ensures { result ≡ speaker_at self.now last.now time }
     {
-        BusTimes {
-            end: None,
-            is_busy: false,
-            speaker: Speaker::Another,
-        }
-    }
-
-    /// Whether no word came for longer than this, up to a time.
-    fn is_silent_for(&self, silence: u64, time: u64) -> bool
-        ensures { result ≡ is_silent_for self.now silence time }
-    {
-        has_passed(self.end, silence, time)
-    }
-
-    /// What is left after a silence.
-    fn after_silence(&self) -> BusTimes
-        ensures { result ≡ after_silence self.now }
-    {
-        BusTimes {
-            end: self.end,
-            is_busy: false,
-            speaker: Speaker::Another,
+        match last {
+            Some(word) => {
+                if has_passed(Some(word_end(word.begin)), self.gap, time) {
+                    Speaker::Another
+                } else {
+                    word.speaker
+                }
+            }
+            None => Speaker::Another,
         }
     }
 
     /// Whose word it is that begins at this time.
-    fn speaker_with(&self, setup: &RecordingSetup, time: u64, sync: WordSync, bits: u16) -> Speaker
-        ensures { result ≡ speaker_with setup.now self.now time sync bits }
+    fn speaker_with(&self, last: &Option<LastWord>, time: u64, sync: WordSync, bits: u16) -> Speaker
+        ensures { result ≡ speaker_with self.now last.now time sync bits }
     {
         match sync {
             WordSync::Command => Speaker::Another,
-            WordSync::Data => self.speaker,
-            WordSync::Status if Command::of(bits).address() == setup.address => {
-                speaker_of(self.is_silent_for(setup.no_response, time))
+            WordSync::Data => self.speaker_at(last, time),
+            WordSync::Status if Command::of(bits).address() == self.address => {
+                speaker_of(has_passed(end_of_word(last), self.no_response, time))
             }
             WordSync::Status => Speaker::Another,
         }
     }
 
     /// Who speaks after this word.
-    fn speaker_seen(&self, setup: &RecordingSetup, time: u64, word: SeenWord) -> Speaker
-        ensures { result ≡ speaker_seen setup.now self.now time word }
+    fn speaker_seen(&self, last: &Option<LastWord>, time: u64, word: SeenWord) -> Speaker
+        ensures { result ≡ speaker_seen self.now last.now time word }
     {
         match word {
-            SeenWord::Noise => self.speaker,
-            SeenWord::Valid(sync, bits) => self.speaker_with(setup, time, sync, bits),
+            SeenWord::Noise => self.speaker_at(last, time),
+            SeenWord::Valid(sync, bits) => self.speaker_with(last, time, sync, bits),
         }
     }
 
     /// What is heard as this word.
-    fn heard_seen(&self, setup: &RecordingSetup, time: u64, bus: Bus, word: SeenWord) -> HeardItem
-        ensures { result ≡ heard_seen setup.now self.now time bus word }
+    fn heard_seen(&self, last: &Option<LastWord>, time: u64, bus: Bus, word: SeenWord) -> HeardItem
+        ensures { result ≡ heard_seen self.now last.now time bus word }
     {
         match word {
             SeenWord::Noise => HeardItem::Noise(bus),
             SeenWord::Valid(sync, bits) => {
-                let speaker = self.speaker_with(setup, time, sync, bits);
+                let speaker = self.speaker_with(last, time, sync, bits);
                 heard_by(speaker, bus, sync, bits)
             }
         }
     }
-}
 
-/// What was heard on both buses so far.
-#[derive(Clone, Copy)]
-pub struct Listening {
-    setup: RecordingSetup,
-    a: BusTimes,
-    b: BusTimes,
-}
-
-impl Listening {
-    /// Nothing yet.
-    pub fn new(setup: RecordingSetup) -> Listening
-        ensures { result ≡ record { setup = setup; a = no_times; b = no_times } }
+    /// Whether a word at this time follows the last one without a gap.
+    fn is_contiguous(&self, last: &Option<LastWord>, time: u64) -> bool
+        ensures { result ≡ is_contiguous self.now last.now time }
     {
-        Listening {
-            setup,
-            a: BusTimes::nothing(),
-            b: BusTimes::nothing(),
+        match last {
+            Some(word) => {
+                counts(&word.heard) && !has_passed(Some(word_end(word.begin)), self.gap, time)
+            }
+            None => false,
         }
     }
 
-    /// What was heard on a bus.
-    fn times_on(&self, bus: Bus) -> BusTimes
-        ensures { result ≡ times_on self.now bus }
+    /// Whether a message to the terminal is open at this time.
+    fn is_open_at(&self, last: &Option<LastWord>, time: u64) -> bool
+        ensures { result ≡ is_open_at self.now last.now time }
+    {
+        match last {
+            Some(word) => {
+                word.is_open && !has_passed(Some(word_end(word.begin)), self.pause_time(), time)
+            }
+            None => false,
+        }
+    }
+
+    /// Whether one is open behind a word that begins at this time.
+    fn is_open_behind(&self, last: &Option<LastWord>, time: u64, heard: &HeardItem) -> bool
+        ensures { result ≡ is_open_behind self.now last.now time heard.now }
+    {
+        let is_open = self.is_open_at(last, time);
+        match heard {
+            HeardItem::Word(_, WordSync::Command, bits) => {
+                is_meant_for(self.address, *bits) || (self.is_contiguous(last, time) && is_open)
+            }
+            HeardItem::Reply(sent) => !is_command_sync(sent.kind) && is_open,
+            _ => is_open,
+        }
+    }
+}
+
+/// The last word on each bus.
+#[derive(Clone, Copy)]
+pub struct Listening {
+    setup: RecordingSetup,
+    a: Option<LastWord>,
+    b: Option<LastWord>,
+}
+
+impl Listening {
+    /// None yet.
+    pub fn new(setup: RecordingSetup) -> Listening
+        ensures { result ≡ listening_first setup }
+    {
+        Listening {
+            setup,
+            a: None,
+            b: None,
+        }
+    }
+
+    /// The last word on a bus, if there was one.
+    fn last_on(&self, bus: Bus) -> Option<LastWord>
+        ensures { result ≡ last_on self.now bus }
     {
         match bus {
             Bus::A => self.a,
@@ -219,69 +325,215 @@ impl Listening {
         }
     }
 
-    /// Sets what was heard on a bus.
-    fn set(&mut self, bus: Bus, times: BusTimes)
-        ensures { self.new ≡ with_times self.old bus times }
+    /// Sets the last word on a bus.
+    fn set(&mut self, bus: Bus, word: LastWord)
+        ensures { self.new ≡ with_last self.old bus word }
     {
         match bus {
-            Bus::A => self.a = times,
-            Bus::B => self.b = times,
+            Bus::A => self.a = Some(word),
+            Bus::B => self.b = Some(word),
         }
     }
 
-    /// Whether a word that begins at this time begins before an earlier one ends.
-    pub fn overlaps(&self, time: u64) -> bool
-        ensures { result ≡ overlaps self.now time }
+    /// When the latest word was heard, or sent.
+    fn latest_time(&self) -> u64
+        ensures { result ≡ latest_time self.now }
     {
-        is_before_end(time, self.a.end) || is_before_end(time, self.b.end)
+        time_of(&self.a).max(time_of(&self.b))
     }
 
-    /// Whether a pause is heard before a word that begins at this time.
-    pub fn is_pause_before(&self, time: u64) -> bool
-        ensures { result ≡ is_pause_before self.now time }
+    /// When the last word on a bus ends, if there was one.
+    pub fn end_on(&self, bus: Bus) -> Option<u64>
+        ensures { result ≡ end_on self.now bus }
     {
-        let end = later_end(self.a.end, self.b.end);
-        has_passed(end, self.setup.pause_time(), time)
+        end_of_word(&self.last_on(bus))
     }
 
-    /// The gap that is heard on a bus before a word that begins at this time, if there is one.
-    pub fn gap_before(&mut self, bus: Bus, time: u64) -> Option<HeardItem>
-        ensures gap { result ≡ gap_if (is_gap_before self.old bus time) bus }
-        ensures known { self.new ≡ hushed self.old bus time }
+    /// What is heard as the word of a row.
+    fn row_heard(&self, row: &WordRow) -> HeardItem
+        ensures { result ≡ row_heard self.now row.now }
     {
-        let is_pause = self.is_pause_before(time);
-        let times = self.times_on(bus);
-        if !times.is_silent_for(self.setup.gap, time) {
-            return gap_if(is_pause, bus);
+        let last = self.last_on(row.bus);
+        self.setup
+            .heard_seen(&last, row.time.nanos, row.bus, row.word)
+    }
+
+    /// When the word of a row is heard, or sent.
+    pub fn row_time(&self, row: &WordRow) -> u64
+        ensures { result ≡ row_time self.now row.now }
+    {
+        heard_time(&self.row_heard(row), row.time.nanos)
+    }
+
+    /// Up to when the other bus is silent, before the word of a row is heard or sent.
+    fn other_until(&self, row: &WordRow, next: Option<u64>) -> u64
+        ensures { result ≡ other_until self.now row.now next }
+    {
+        let time = self.row_time(row);
+        match next {
+            Some(begin) => begin.min(time),
+            None => time,
         }
-        self.set(bus, times.after_silence());
-        gap_if(times.is_busy || is_pause, bus)
     }
 
-    /// The gap that is heard on a bus at the end of the table, if there is one.
-    pub fn last_gap(&self, bus: Bus) -> Option<HeardItem>
-        ensures { result ≡ gap_if (times_on self.now bus).is_busy bus }
-    {
-        gap_if(self.times_on(bus).is_busy, bus)
-    }
-
-    /// What is heard as the word of a row, behind the gaps before it.
+    /// Hears the word of a row.
     pub fn hear(&mut self, row: &WordRow) -> HeardItem
         ensures heard { result ≡ row_heard self.old row.now }
         ensures known { self.new ≡ row_known self.old row.now }
     {
-        let times = self.times_on(row.bus);
-        let time = row.time.nanos;
-        let heard = times.heard_seen(&self.setup, time, row.bus, row.word);
-        let speaker = times.speaker_seen(&self.setup, time, row.word);
+        let last = self.last_on(row.bus);
+        let begin = row.time.nanos;
+        let heard = self.row_heard(row);
+        let speaker = self.setup.speaker_seen(&last, begin, row.word);
+        let is_open = self.setup.is_open_behind(&last, begin, &heard);
         self.set(
             row.bus,
-            BusTimes {
-                end: Some(word_end(time)),
-                is_busy: times.is_busy || counts(&heard),
+            LastWord {
+                begin,
+                heard,
                 speaker,
+                is_open,
             },
         );
         heard
+    }
+
+    /// Whether a message to the terminal is open behind the last word on a bus.
+    fn is_open_on(&self, bus: Bus) -> bool
+        ensures { result ≡ is_open_on self.now bus }
+    {
+        is_open_last(&self.last_on(bus))
+    }
+
+    /// Whether the silence of a bus becomes longer than this behind the latest word on both, and not later than this time.
+    fn falls_silent(&self, bus: Bus, silence: u64, time: u64) -> bool
+        ensures { result ≡ falls_silent self.now bus silence time }
+    {
+        let since = silent_since(&self.last_on(bus));
+        becomes_longer(since, silence, self.latest_time(), time)
+    }
+
+    /// Whether a pause is heard before a word that begins at this time.
+    fn is_pause_before(&self, time: u64) -> bool
+        ensures { result ≡ is_pause_before self.now time }
+    {
+        let end = later_end(end_of_word(&self.a), end_of_word(&self.b));
+        has_passed(end, self.setup.pause_time(), time)
+    }
+
+    /// Whether the terminal had to send by this time, and did not.
+    fn is_silent_reply(&self, bus: Bus, last: &Option<LastWord>, time: u64) -> bool
+        ensures { result ≡ is_silent_reply self.now bus last.now time }
+    {
+        match last {
+            Some(word) => {
+                word.is_open
+                    && self.falls_silent(bus, self.setup.no_response, time)
+                    && is_over_before(self.end_on(other_bus(bus)), word_end(word.begin))
+            }
+            None => false,
+        }
+    }
+
+    /// Whether its reply is over by this time.
+    fn is_reply_over(&self, bus: Bus, last: &Option<LastWord>, time: u64) -> bool
+        ensures { result ≡ is_reply_over self.now bus last.now time }
+    {
+        match last {
+            Some(word) => {
+                is_reply(&word.heard)
+                    && self.falls_silent(bus, self.setup.gap, time)
+                    && is_over_before(self.end_on(other_bus(bus)), word.begin)
+            }
+            None => false,
+        }
+    }
+
+    /// Whether the silence of a bus up to this time has a slot in which the terminal sends nothing.
+    fn has_slot_on(&self, bus: Bus, time: u64) -> bool
+        ensures { result ≡ has_slot_on self.now bus time }
+    {
+        let last = self.last_on(bus);
+        self.is_silent_reply(bus, &last, time) || self.is_reply_over(bus, &last, time)
+    }
+
+    /// Whether the terminal has given up waiting on a bus by this time.
+    fn gives_up(&self, bus: Bus, time: u64) -> bool
+        ensures { result ≡ gives_up self.now bus time }
+    {
+        self.is_open_on(bus) && self.falls_silent(bus, LONGEST_WAIT, time)
+    }
+
+    /// Whether it may have given up or not.
+    fn may_give_up(&self, bus: Bus, time: u64) -> bool
+        ensures { result ≡ may_give_up self.now bus time }
+    {
+        let since = silent_since(&self.last_on(bus));
+        self.is_open_on(bus)
+            && has_lasted(since, SHORTEST_WAIT, time)
+            && !has_passed(since, LONGEST_WAIT, time)
+    }
+
+    /// The gap on a bus that was silent up to this time, or in a pause.
+    fn first_gap_on(&self, bus: Bus, time: u64, is_pause: bool) -> Option<HeardItem>
+        ensures { result ≡ first_gap_on self.now bus time is_pause }
+    {
+        gap_if(
+            self.falls_silent(bus, self.setup.gap, time) || is_pause,
+            bus,
+        )
+    }
+
+    /// The second gap there.
+    fn second_on(&self, bus: Bus, time: u64, is_pause: bool) -> Option<HeardItem>
+        ensures { result ≡ second_on self.now bus time is_pause }
+    {
+        gap_if(self.gives_up(bus, time) || is_pause, bus)
+    }
+
+    /// The second gap that may have come before this word.
+    fn maybe_on(&self, bus: Bus, time: u64, heard: &HeardItem) -> Option<HeardItem>
+        ensures { result ≡ maybe_on self.now bus time heard.now }
+    {
+        maybe_gap_if(!is_own_word(heard) && self.may_give_up(bus, time), bus)
+    }
+
+    /// What is heard of the silence before the word of a row. `next` is when the next word on the other bus begins, if one was read.
+    pub fn silence_before(&self, row: &WordRow, next: Option<u64>) -> Silence
+        ensures { result ≡ silence_before self.now row.now next }
+    {
+        let own = row.bus;
+        let other = other_bus(own);
+        let begin = row.time.nanos;
+        let heard = self.row_heard(row);
+        let until = self.other_until(row, next);
+        let is_pause = self.is_pause_before(begin);
+        Silence {
+            other_gap: self.first_gap_on(other, until, is_pause),
+            own_gap: self.first_gap_on(own, begin, is_pause),
+            slot: slot_if(self.has_slot_on(other, until) || self.has_slot_on(own, begin)),
+            other_second: self.second_on(other, until, is_pause),
+            own_second: self.second_on(own, begin, is_pause),
+            pause: pause_if(is_pause),
+            other_maybe: self.maybe_on(other, until, &heard),
+            own_maybe: self.maybe_on(own, begin, &heard),
+        }
+    }
+
+    /// What is heard of the silence behind the last words, which goes on.
+    pub fn last_silence(&self) -> Silence
+        ensures { result ≡ last_silence self.now }
+    {
+        let forever = u64::MAX;
+        Silence {
+            other_gap: self.first_gap_on(Bus::A, forever, false),
+            own_gap: self.first_gap_on(Bus::B, forever, false),
+            slot: slot_if(self.has_slot_on(Bus::A, forever) || self.has_slot_on(Bus::B, forever)),
+            other_second: None,
+            own_second: None,
+            pause: None,
+            other_maybe: None,
+            own_maybe: None,
+        }
     }
 }

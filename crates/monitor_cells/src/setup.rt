@@ -8,6 +8,14 @@ pub const WORD_TIME: u64 = 20_000;
 /// How long before the end of the word above it a word may begin, in nanoseconds: times in tables are rounded.
 pub const TOLERANCE: u64 = 1_000;
 
+/// How long a terminal waits for the status word of another at least, in nanoseconds: 14.0 microseconds (4.3.3.9) are measured from the middle
+/// of the last bit to the middle of the sync, which leaves 12.0 of silence, and 1 less where times are rounded.
+pub const SHORTEST_WAIT: u64 = 11_000;
+
+/// How long it waits behind the two commands at most, in nanoseconds: the first data word begins within 60 microseconds behind the first of
+/// them (Notice 2, 30.9), and the second takes 20.
+pub const LONGEST_WAIT: u64 = 40_000;
+
 /// The terminal that is recorded, and the silences that count, in nanoseconds.
 #[derive(Clone, Copy)]
 pub struct RecordingSetup {

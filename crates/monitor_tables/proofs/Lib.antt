@@ -1,5 +1,4 @@
 pub mod HeaderLaws
-pub mod OwedLaws
 pub mod PutLaws
 pub mod ReadBackLaws
 pub mod ReadLaws

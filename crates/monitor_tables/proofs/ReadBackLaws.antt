@@ -1,8 +1,9 @@
 -- A recording, read back, says what was heard and the silent slots that are owed.
-use Rattle.std.proofs.Common.{ℕ, ◌≡◌, ◌∙◌, ◌+◌, ◌*◌, ◌<◌, ◌≤◌, ◌^◌, ◌==◌, ◌&&◌, ◌||◌, Bool, true, false, cond, if◌then◌else◌, List, [], ◌∷◌, ◌++◌, Option, Some, None, is_some, Result, Ok, Err, length, map, filter, flat_map, refl, sym, ap, subst, arith, append_assoc, append-nil, codes}
+use Rattle.std.proofs.Common.{ℕ, ◌≡◌, ◌∙◌, ◌+◌, ◌*◌, ◌<◌, ◌≤◌, ◌^◌, ◌==◌, ◌%◌, ◌&&◌, ◌||◌, Bool, true, false, if◌then◌else◌, List, [], ◌∷◌, ◌++◌, Option, Some, None, is_some, Result, Ok, Err, length, map, flat_map, refl, sym, ap, subst, arith, append_assoc, append-nil, length-append, codes, decimal}
 use Rattle.std.specs.List.{list_all}
 use Rattle.std.proofs.lemmas.List.{map-append}
 use Rattle.std.proofs.lemmas.Bool.Decides.{nat_tests}
+use Rattle.std.proofs.lemmas.Fmt.{decimal_by_steps}
 use Rattle.bus_word.specs.declared.word.Bus.{Bus}
 use Rattle.bus_word.specs.declared.word.Bus.TheVariants.{A, B}
 use Rattle.bus_word.specs.declared.word.Kind.{Kind}
@@ -22,18 +23,19 @@ use Rattle.script_lines.specs.EventLine.{event_text, event_line}
 use Rattle.script_lines.specs.Transcript.{bus_letter, sent_kind, sent_text}
 use Rattle.script_lines.proofs.RoundTrip.{event_read}
 use Rattle.rt1553_verify.specs.declared.stated.StatedFault.{StatedFault}
-use Rattle.rt1553_verify.specs.declared.matching.Matching.TheVariants.{Exact}
-use Rattle.rt1553_verify.specs.Stated.{StatedEvent, Latest, After, can_answer, can_be_given, states, ended, all_stated, then_event, stays, or_misplaced, silent_line, by_going_on, by_mask, by_answer, unstated_line, line_says, then_events, then_lines, stated_by, stated_within}
-use Rattle.rt1553_verify.specs.declared.stated.StatedFault.TheVariants.{Impossible}
+use Rattle.rt1553_verify.specs.declared.matching.Matching.TheVariants.{Exact, MaybeGap as Maybe}
+use Rattle.rt1553_verify.specs.Stated.{StatedEvent, Latest, After, can_answer, can_be_given, states, ended, all_stated, then_event, maybe_gap_line, stays, or_misplaced, silent_line, by_going_on, by_mask, by_answer, unstated_line, line_says, then_events, then_lines, stated_by, stated_within}
+use Rattle.rt1553_verify.specs.declared.stated.StatedFault.TheVariants.{Impossible, EndsEarly}
 use Rattle.rt1553_verify.proofs.PossibleLaws.{answer-possible}
 use Rattle.rt1553_verify.proofs.StatedLaws.{stated-means, bounded-short, stated-line, then-none, then-twice, stated-none}
 use Rattle.rt1553_acceptance.proofs.Feeds.{IsLine, literal, within, joined, digits-line, letter-line, sent_kind-line, event-line}
+use Rattle.rt1553_acceptance.proofs.Pieces.{feeds-append}
 use Rattle.rt1553_acceptance.proofs.Small.{IsRead, read-sent}
 use Rattle.monitor_cells.specs.declared.heard.HeardItem.{HeardItem}
-use Rattle.monitor_cells.specs.declared.heard.HeardItem.TheVariants.{Gap, Word, Noise, Reply, Late, Pause}
+use Rattle.monitor_cells.specs.declared.heard.HeardItem.TheVariants.{Gap, Word, Noise, Reply, Late, Slot, MaybeGap, Pause}
 use Rattle.monitor_cells.specs.Cells.{is_time_byte, is_time_text, kind_of_sync}
-use Rattle.monitor_tables.specs.Owed.{is_owed_by}
-use Rattle.monitor_tables.specs.Recording.{HeardAt, slot_line, has_slot, time_line, heard_line, noted_text, recording_after, event_stating, without_line, silent_slot, heard_stated, stated_after, is_spoken, HasWords, IsNotable, AreNotable, ReadBackLaw}
+use Rattle.monitor_tables.specs.declared.fault.RefusedRow.{RefusedRow}
+use Rattle.monitor_tables.specs.Recording.{HeardAt, time_line, heard_line, noted_text, recording_text, refused_line, event_stating, gap_maybe, without_line, heard_stated, HasWords, IsNotable, AreNotable, ReadBackLaw, EarlyEndLaw}
 
 -- ---- one line
 
@@ -46,21 +48,21 @@ given s can = ap (λ b. if b then Ok (ended (Some s)) else Err (Impossible s.ans
 
 -- a line that means an event says that event, whatever is the latest
 says-event : (n : ℕ) (latest : Latest) (line : List ℕ) (e : Event) → meaning line ≡ Ok (Some e) → IsGiven latest
-    → line_says n latest line ≡ Ok (record { events = ended latest; latest = Some (record { line = n; event = e; matching = Exact; answer_line = 0; answer = [] }) })
+    → line_says true n latest line ≡ Ok (record { events = ended latest; latest = Some (record { line = n; event = e; matching = Exact; answer_line = 0; answer = [] }) })
 says-event n latest line e means given = first (after (codes "#> ") line) refl
   where
     Said : Result After StatedFault → Type 0
     Said said = said ≡ Ok (record { events = ended latest; latest = Some (record { line = n; event = e; matching = Exact; answer_line = 0; answer = [] }) })
 
-    third : (o : Option (List ℕ)) → after (codes "#+ ") line ≡ o → Said (by_going_on n latest line o)
-    third None is = ap (unstated_line n latest line) means ∙ ap (then_event n e) given
+    third : (o : Option (List ℕ)) → after (codes "#+ ") line ≡ o → Said (by_going_on true n latest line o)
+    third None is = ap (unstated_line true n latest line) means ∙ ap (then_event n e Exact) given
     third (Some rest) is = let no = sym (stated-means 43 line rest is) ∙ means in absurd (cc)
 
-    second : (o : Option (List ℕ)) → after (codes "#~ ") line ≡ o → Said (by_mask n latest line o)
+    second : (o : Option (List ℕ)) → after (codes "#~ ") line ≡ o → Said (by_mask true n latest line o)
     second None is = third (after (codes "#+ ") line) refl
     second (Some mask) is = let no = sym (stated-means 126 line mask is) ∙ means in absurd (cc)
 
-    first : (o : Option (List ℕ)) → after (codes "#> ") line ≡ o → Said (by_answer n latest line o)
+    first : (o : Option (List ℕ)) → after (codes "#> ") line ≡ o → Said (by_answer true n latest line o)
     first None is = second (after (codes "#~ ") line) refl
     first (Some rest) is = let no = sym (stated-means 62 line rest is) ∙ means in absurd (cc)
 
@@ -74,33 +76,33 @@ module _ (most : ℕ) where
   -- After n lines and this latest event the text says these events, whatever follows it, and then m lines are behind, and this event is the
   -- latest.
   record Tells (n m : ℕ) (text : List ℕ) (latest later : Latest) (events : List StatedEvent) : Type 0 where
-    each : (rest : List ℕ) → stated_by most n latest (lines_of (text ++ rest)) ≡ then_events events (stated_by most m later (lines_of rest))
+    each : (rest : List ℕ) → stated_by true most n latest (lines_of (text ++ rest)) ≡ then_events events (stated_by true most m later (lines_of rest))
 
   Tells-nil : (n : ℕ) (latest : Latest) → Tells n n [] latest latest []
-  Tells-nil n latest = record { each = λ rest. sym (then-none (stated_by most n latest (lines_of rest))) }
+  Tells-nil n latest = record { each = λ rest. sym (then-none (stated_by true most n latest (lines_of rest))) }
 
   Tells-trans : {n m k : ℕ} {text more : List ℕ} {a b c : Latest} {es fs : List StatedEvent} → Tells n m text a b es → Tells m k more b c fs → Tells n k (text ++ more) a c (es ++ fs)
   Tells-trans {n = n} {k = k} {text = text} {more = more} {a = a} {c = c} {es = es} {fs = fs} p q = record {
-    each = λ rest. ap (λ xs. stated_by most n a (lines_of xs)) (append_assoc text more rest)
-        ∙ p.each (more ++ rest) ∙ ap (then_events es) (q.each rest) ∙ then-twice es fs (stated_by most k c (lines_of rest));
+    each = λ rest. ap (λ xs. stated_by true most n a (lines_of xs)) (append_assoc text more rest)
+        ∙ p.each (more ++ rest) ∙ ap (then_events es) (q.each rest) ∙ then-twice es fs (stated_by true most k c (lines_of rest));
   }
 
   -- one whole line
   Tells-line : (n : ℕ) (line : List ℕ) (latest later : Latest) (es : List StatedEvent) → n < most → length line ≤ 64 → NoLineFeed line
-      → line_says (n + 1) latest line ≡ Ok (record { events = es; latest = later }) → Tells n (n + 1) (line ++ 10 ∷ []) latest later es
+      → line_says true (n + 1) latest line ≡ Ok (record { events = es; latest = later }) → Tells n (n + 1) (line ++ 10 ∷ []) latest later es
   Tells-line n line latest later es few short feeds says = record {
-    each = λ rest. ap (λ xs. stated_by most n latest (lines_of xs)) (append_assoc line (10 ∷ []) rest)
-        ∙ ap (stated_by most n latest) (lines-line line rest feeds) ∙ stated-line most n latest line (lines_of rest) few
-        ∙ ap (λ s. then_lines s (λ l. stated_by most (n + 1) l (lines_of rest))) (bounded-short (n + 1) latest line short ∙ says);
+    each = λ rest. ap (λ xs. stated_by true most n latest (lines_of xs)) (append_assoc line (10 ∷ []) rest)
+        ∙ ap (stated_by true most n latest) (lines-line line rest feeds) ∙ stated-line true most n latest line (lines_of rest) few
+        ∙ ap (λ s. then_lines s (λ l. stated_by true most (n + 1) l (lines_of rest))) (bounded-short true (n + 1) latest line short ∙ says);
   }
 
   Tells-same : {n m : ℕ} {text : List ℕ} {a b : Latest} {es : List StatedEvent} (same : List ℕ) → same ≡ text → Tells n m text a b es → Tells n m same a b es
-  Tells-same {n = n} {a = a} same is p = record { each = λ rest. ap (λ xs. stated_by most n a (lines_of (xs ++ rest))) is ∙ p.each rest }
+  Tells-same {n = n} {a = a} same is p = record { each = λ rest. ap (λ xs. stated_by true most n a (lines_of (xs ++ rest))) is ∙ p.each rest }
 
   -- all of a text
-  Tells-all : {m : ℕ} {text : List ℕ} {later : Latest} {es : List StatedEvent} → Tells 0 m text None later es → IsGiven later → stated_within most text ≡ Ok (es ++ ended later)
+  Tells-all : {m : ℕ} {text : List ℕ} {later : Latest} {es : List StatedEvent} → Tells 0 m text None later es → IsGiven later → stated_within true most text ≡ Ok (es ++ ended later)
   Tells-all {m = m} {text = text} {later = later} {es = es} p last =
-      ap (λ xs. stated_by most 0 None (lines_of xs)) (sym (append-nil text)) ∙ p.each [] ∙ ap (then_events es) (stated-none most m later ∙ last)
+      ap (λ xs. stated_by true most 0 None (lines_of xs)) (sym (append-nil text)) ∙ p.each [] ∙ ap (then_events es) (stated-none true most m later ∙ last)
 
   -- ---- pieces of a recording
 
@@ -133,7 +135,7 @@ module _ (most : ℕ) where
   }
 
   -- a comment says nothing
-  reads-comment : (n : ℕ) (line : List ℕ) (latest : Latest) → n < most → IsLine 64 line → line_says (n + 1) latest line ≡ Ok (stays latest) → Read n (line ++ 10 ∷ []) latest [] (n + 1)
+  reads-comment : (n : ℕ) (line : List ℕ) (latest : Latest) → n < most → IsLine 64 line → line_says true (n + 1) latest line ≡ Ok (stays latest) → Read n (line ++ 10 ∷ []) latest [] (n + 1)
   reads-comment n line latest few is says = (
     n + 1,
     latest,
@@ -184,7 +186,7 @@ module _ (most : ℕ) where
       on_bus A = refl
       on_bus B = refl
 
-  states-word : (n k : ℕ) (line : List ℕ) → can_answer event.Slot line ≡ true → IsRead line → line_says n (Some (placed k event.Slot 0 [])) (codes "#> " ++ line) ≡ Ok (stays (Some (placed k event.Slot n line)))
+  states-word : (n k : ℕ) (line : List ℕ) → can_answer event.Slot line ≡ true → IsRead line → line_says true n (Some (placed k event.Slot 0 [])) (codes "#> " ++ line) ≡ Ok (stays (Some (placed k event.Slot n line)))
   states-word n k line can small = ap (λ text. or_misplaced n (states n Exact (Some (placed k event.Slot 0 [])) text)) small ∙ ap (λ b. or_misplaced n (if b then Some (placed k event.Slot n line) else None)) can
 
   -- what is stated of an ended slot is the word with its line feed
@@ -220,7 +222,7 @@ module _ (most : ℕ) where
 
   -- ---- comments
 
-  late-says : (n : ℕ) (latest : Latest) (line : List ℕ) → line_says n latest (codes "# later than no response: " ++ line) ≡ Ok (stays latest)
+  late-says : (n : ℕ) (latest : Latest) (line : List ℕ) → line_says true n latest (codes "# later than no response: " ++ line) ≡ Ok (stays latest)
   unfolding meaning
   late-says n latest line = refl
 
@@ -228,6 +230,35 @@ module _ (most : ℕ) where
   reads-late n w latest few =
       let line : IsLine 64 (codes "# later than no response: " ++ word_line w) = within (omega arith) (joined (codes "# later than no response: ") (word_line w) (literal (codes "# later than no response: ") refl) (word-line w)) in
       subst (λ text. Read n text latest [] (n + 1)) (sym (fronted (codes "# later than no response: ") w)) (reads-comment n _ latest few line (late-says (n + 1) latest (word_line w)))
+
+  -- the line of a gap that may have come
+  maybe-line : (bus : Bus) → IsLine 64 (codes "#? " ++ event_text (event.Gap bus))
+  maybe-line A = within (omega arith) (literal (codes "#? A gap") refl)
+  maybe-line B = within (omega arith) (literal (codes "#? B gap") refl)
+
+  maybe-says : (n : ℕ) (latest : Latest) (bus : Bus) → IsGiven latest
+      → line_says true n latest (codes "#? " ++ event_text (event.Gap bus)) ≡ Ok (record { events = ended latest; latest = Some (record { line = n; event = event.Gap bus; matching = Maybe; answer_line = 0; answer = [] }) })
+  unfolding meaning
+  maybe-says n latest A given = ap (λ r. maybe_gap_line n latest r) (event_read (event.Gap A) tt) ∙ ap (then_event n (event.Gap A) Maybe) given
+  maybe-says n latest B given = ap (λ r. maybe_gap_line n latest r) (event_read (event.Gap B) tt) ∙ ap (then_event n (event.Gap B) Maybe) given
+
+  reads-maybe : (n : ℕ) (bus : Bus) (latest : Latest) → n < most → Read n (codes "#? " ++ event_line (event.Gap bus)) latest (gap_maybe bus ∷ []) (n + 1)
+  reads-maybe n bus latest few =
+      let line = maybe-line bus in
+      let it : StatedEvent = record { line = n + 1; event = event.Gap bus; matching = Maybe; answer_line = 0; answer = [] } in (
+        n + 1,
+        Some it,
+        record {
+          said = ended latest;
+          stated = it ∷ [];
+          tells = λ x. Tells-same (codes "#? " ++ event_line (event.Gap bus)) (sym (append_assoc (codes "#? ") (event_text (event.Gap bus)) (10 ∷ [])))
+              (Tells-line n (codes "#? " ++ event_text (event.Gap bus)) latest (Some it) (ended latest) few line.short line.feeds (maybe-says (n + 1) latest bus x));
+          gives = λ x. refl;
+          splits = refl;
+          are = refl;
+        },
+        omega arith,
+      )
 
   -- a byte of a time begins no stated answer, and is no line feed
   time_byte : (b : ℕ) (more : Bool) → (is_time_byte b && more) ≡ true → ((b == 62) ≡ false) × ((b == 126) ≡ false) × (b ≡ 10 → ⊥) × (more ≡ true)
@@ -240,7 +271,7 @@ module _ (most : ℕ) where
   time-parts : (text : List ℕ) → is_time_text text ≡ true → (length text ≤ 60) × (list_all is_time_byte text ≡ true)
   time-parts text e = (grind (arith, nat_tests), grind (arith, nat_tests))
 
-  time-says : (n : ℕ) (latest : Latest) (b : ℕ) (bs : List ℕ) → (b == 62) ≡ false → (b == 126) ≡ false → line_says n latest (35 ∷ 32 ∷ b ∷ bs) ≡ Ok (stays latest)
+  time-says : (n : ℕ) (latest : Latest) (b : ℕ) (bs : List ℕ) → (b == 62) ≡ false → (b == 126) ≡ false → line_says true n latest (35 ∷ 32 ∷ b ∷ bs) ≡ Ok (stays latest)
   unfolding meaning
   time-says n latest b bs p q = ap (silent_line n latest) (by (b == 62) (b == 126) p q)
     where
@@ -259,10 +290,6 @@ module _ (most : ℕ) where
 
   -- ---- what was heard
 
-  reads-slot : (n : ℕ) (owed : Bool) (latest : Latest) → n < most → Read n (slot_line owed) latest (silent_slot owed) (n + 1)
-  reads-slot n true latest few = reads-event n event.Slot latest few tt
-  reads-slot n false latest few = let none = reads-nil n latest in (none.0, none.1, none.2, omega (arith, none.3))
-
   reads-more : {n few last : ℕ} {text more : List ℕ} {latest : Latest} {ss ts : List StatedEvent} → (p : Read n text latest ss few) → Read p.0 more p.1 ts last → Read n (text ++ more) latest (ss ++ ts) last
   reads-more p q = (q.0, q.1, Reads-trans p.2 q.2, q.3)
 
@@ -275,71 +302,73 @@ module _ (most : ℕ) where
   reads-heard n (Noise bus) latest few words = reads-later (omega arith) (reads-event n (event.Noise bus) latest (omega (arith, few)) tt)
   reads-heard n (Reply sent) latest few words = reads-reply n (shown_word sent) latest few words
   reads-heard n (Late sent) latest few words = reads-later (omega arith) (reads-late n (shown_word sent) latest (omega (arith, few)))
-  reads-heard n Pause latest few words = reads-later (omega arith) (reads-nil n latest)
+  reads-heard n Slot latest few words = reads-later (omega arith) (reads-event n event.Slot latest (omega (arith, few)) tt)
+  reads-heard n (MaybeGap bus) latest few words = reads-later (omega arith) (reads-maybe n bus latest (omega (arith, few)))
+  reads-heard n Pause latest few words = reads-later (omega arith) (reads-event n event.Slot latest (omega (arith, few)) tt)
 
-  reads-noted : (n : ℕ) (owed : Bool) (x : HeardAt) (latest : Latest) → n + 3 < most → IsNotable x → Read n (noted_text owed x) latest (silent_slot (has_slot owed x.heard) ++ heard_stated x.heard) (n + 4)
-  reads-noted n owed x latest few is =
-      let slot = reads-slot n (has_slot owed x.heard) latest (omega (arith, few)) in
-      let time = reads-time slot.0 x.time slot.1 (omega (arith, few, slot.3)) is.time in
-      let heard = reads-heard time.0 x.heard time.1 (omega (arith, few, slot.3, time.3)) is.words in
-      reads-later (omega (arith, slot.3, time.3)) (reads-more slot (reads-more time heard))
+  reads-noted : (n : ℕ) (x : HeardAt) (latest : Latest) → n + 2 < most → IsNotable x → Read n (noted_text x) latest (heard_stated x.heard) (n + 3)
+  reads-noted n x latest few is =
+      let time = reads-time n x.time latest (omega (arith, few)) is.time in
+      let heard = reads-heard time.0 x.heard time.1 (omega (arith, few, time.3)) is.words in
+      reads-later (omega (arith, time.3)) (reads-more time heard)
 
-  reads-all : (address : ℕ) (h : List HeardItem) (ns : List HeardAt) (n : ℕ) (latest : Latest) → AreNotable ns → n + (4 * length ns + 1) < most
-      → Read n (recording_after address h ns) latest (stated_after address h (map (λ n. n.heard) ns)) (n + (4 * length ns + 1))
-  unfolding recording_after stated_after
-  reads-all address h [] n latest are few = reads-later (omega arith) (reads-slot n (is_owed_by address h) latest (omega (arith, few)))
-  reads-all address h (x ∷ ns) n latest are few =
-      let first = reads-noted n (is_owed_by address h) x latest (omega (arith, few)) are.0 in
-      let rest = reads-all address (x.heard ∷ h) ns first.0 first.1 are.1 (omega (arith, few, first.3)) in
-      let both = reads-more first rest in
-      subst (λ ss. Read n (recording_after address h (x ∷ ns)) latest ss (n + (4 * length (x ∷ ns) + 1)))
-      (append_assoc (silent_slot (has_slot (is_owed_by address h) x.heard)) (heard_stated x.heard) (stated_after address (x.heard ∷ h) (map (λ n. n.heard) ns)))
-      (reads-later (omega (arith, first.3)) both)
-
--- ---- without the silent slots
-
-filter-append : (p : StatedEvent → Bool) (xs ys : List StatedEvent) → filter p (xs ++ ys) ≡ filter p xs ++ filter p ys
-filter-append p [] ys = refl
-filter-append p (x ∷ xs) ys = by (p x) (filter-append p xs ys)
-  where
-    by : (b : Bool) → filter p (xs ++ ys) ≡ filter p xs ++ filter p ys → cond b (x ∷ filter p (xs ++ ys)) (filter p (xs ++ ys)) ≡ cond b (x ∷ filter p xs) (filter p xs) ++ filter p ys
-    by true later = ap (λ zs. x ∷ zs) later
-    by false later = later
-
-silent-left : (owed : Bool) → filter is_spoken (silent_slot owed) ≡ []
-silent-left true = refl
-silent-left false = refl
-
-heard-kept : (x : HeardItem) → filter is_spoken (heard_stated x) ≡ heard_stated x
-heard-kept (Gap bus) = refl
-heard-kept (Word bus sync bits) = refl
-heard-kept (Noise bus) = refl
-heard-kept (Reply sent) = on_bus sent.bus
-  where
-    on_bus : (bus : Bus) → filter is_spoken (event_stating event.Slot (sent_text (record { bus = bus; kind = sent.kind; bits = sent.bits })) ∷ []) ≡ event_stating event.Slot (sent_text (record { bus = bus; kind = sent.kind; bits = sent.bits })) ∷ []
-    on_bus A = refl
-    on_bus B = refl
-heard-kept (Late sent) = refl
-heard-kept Pause = refl
-
-spoken : (address : ℕ) (h xs : List HeardItem) → filter is_spoken (stated_after address h xs) ≡ flat_map heard_stated xs
-unfolding stated_after
-spoken address h [] = silent-left (is_owed_by address h)
-spoken address h (x ∷ xs) =
-    let silent = silent_slot (has_slot (is_owed_by address h) x) in
-    let later = stated_after address (x ∷ h) xs in
-    filter-append is_spoken silent (heard_stated x ++ later)
-    ∙ ap (λ ys. ys ++ filter is_spoken (heard_stated x ++ later)) (silent-left (has_slot (is_owed_by address h) x))
-    ∙ filter-append is_spoken (heard_stated x) later
-    ∙ ap (λ ys. ys ++ filter is_spoken later) (heard-kept x)
-    ∙ ap (λ ys. heard_stated x ++ ys) (spoken address (x ∷ h) xs)
+  reads-all : (ns : List HeardAt) (n : ℕ) (latest : Latest) → AreNotable ns → n + 3 * length ns < most
+      → Read n (recording_text ns) latest (flat_map heard_stated (map (λ n. n.heard) ns)) (n + 3 * length ns)
+  reads-all [] n latest are few = reads-later (omega arith) (reads-nil n latest)
+  reads-all (x ∷ ns) n latest are few =
+      let first = reads-noted n x latest (omega (arith, few)) are.0 in
+      let rest = reads-all ns first.0 first.1 are.1 (omega (arith, few, first.3)) in
+      reads-later (omega (arith, first.3)) (reads-more first rest)
 
 pub read_back : ReadBackLaw
-read_back most address ns are few =
-    let all = reads-all most address [] ns 0 None are (omega (arith, few)) in
-    let r = all.2 in record {
-      stated = r.stated;
-      reads = Tells-all most (r.tells refl) (r.gives refl) ∙ ap Ok r.splits;
-      slots = r.are;
-      words = ap (filter is_spoken) r.are ∙ spoken address [] (map (λ n. n.heard) ns);
-    }
+read_back most ns are few =
+    let all = reads-all most ns 0 None are (omega (arith, few)) in
+    let r = all.2 in record { stated = r.stated; reads = Tells-all most (r.tells refl) (r.gives refl) ∙ ap Ok r.splits; events = r.are }
+
+-- ---- recordings that end early
+
+decimal-feeds : (n : ℕ) → n < 2 ^ 64 → NoLineFeed (decimal n)
+decimal-feeds n small =
+    decimal_by_steps (λ _ ds. NoLineFeed ds) (λ n low. ((λ e. absurd (omega (arith, e))), tt))
+    (λ n ds high none. feeds-append ds ((48 + n % 10) ∷ []) none ((λ e. absurd (omega (arith, e))), tt)) n small
+
+-- the last line, without its line feed, and behind its front
+early_rest : RefusedRow → List ℕ
+early_rest refused = decimal refused.row ++ (codes " was refused; rows written: " ++ decimal refused.rows)
+
+early-line : (refused : RefusedRow) → refused_line refused.row refused.rows ≡ (codes "#! row " ++ early_rest refused) ++ 10 ∷ []
+unfolding early_rest
+early-line refused =
+    ap (λ text. codes "#! row " ++ text)
+    (ap (λ text. decimal refused.row ++ text) (sym (append_assoc (codes " was refused; rows written: ") (decimal refused.rows) (10 ∷ [])))
+    ∙ sym (append_assoc (decimal refused.row) (codes " was refused; rows written: " ++ decimal refused.rows) (10 ∷ [])))
+    ∙ sym (append_assoc (codes "#! row ") (early_rest refused) (10 ∷ []))
+
+early-feeds : (refused : RefusedRow) → refused.row < 2 ^ 64 → refused.rows < 2 ^ 64 → NoLineFeed (codes "#! row " ++ early_rest refused)
+unfolding early_rest
+early-feeds refused row rows =
+    let written = literal (codes " was refused; rows written: ") refl in
+    let front = literal (codes "#! row ") refl in
+    feeds-append (codes "#! row ") (early_rest refused) front.feeds
+    (feeds-append (decimal refused.row) (codes " was refused; rows written: " ++ decimal refused.rows) (decimal-feeds refused.row row)
+    (feeds-append (codes " was refused; rows written: ") (decimal refused.rows) written.feeds (decimal-feeds refused.rows rows)))
+
+early-says : (n : ℕ) (latest : Latest) (rest : List ℕ) → line_says true n latest (codes "#! row " ++ rest) ≡ Err (EndsEarly n)
+unfolding meaning
+early-says n latest rest = refl
+
+pub early_ends : EarlyEndLaw
+early_ends most ns refused row rows are few short =
+    let begun = reads-all most ns 0 None are (omega (arith, few)) in
+    let m : ℕ = begun.0 in
+    let later : Latest = begun.1 in
+    let r = begun.2 in
+    let line : List ℕ = codes "#! row " ++ early_rest refused in
+    let low : length line ≤ 64 = omega (arith, short, ap length (early-line refused), length-append line (10 ∷ [])) in (
+      m + 1,
+      ap (λ text. stated_by true most 0 None (lines_of (recording_text ns ++ text))) (early-line refused)
+          ∙ (r.tells refl).each (line ++ 10 ∷ [])
+          ∙ ap (λ ls. then_events r.said (stated_by true most m later ls)) (lines-line line [] (early-feeds refused row rows))
+          ∙ ap (then_events r.said) (stated-line true most m later line (lines_of []) (omega (arith, few, begun.3))
+          ∙ ap (λ s. then_lines s (λ l. stated_by true most (m + 1) l (lines_of []))) (bounded-short true (m + 1) later line low ∙ early-says (m + 1) later (early_rest refused))),
+    )

@@ -10,7 +10,7 @@ use Rattle.csv.proofs.ReadFacts.{rows-more}
 use Rattle.monitor_cells.specs.Cells.{is_some_text}
 use Rattle.monitor_tables.specs.Fields.{record_text}
 use Rattle.monitor_tables.specs.declared.records.TableRecords.{TableRecords}
-use Rattle.monitor_tables.specs.Table.{table_config, table_text, is_some_record, told_of, told_records, AreTableRecords, bytes_left, HasTold, TellsAll}
+use Rattle.monitor_tables.specs.Table.{table_config, table_text, is_some_record, told_of, told_records, AreTableRecords, bytes_left, HasTold, TellsAll, TellsFront}
 use Rattle.monitor_tables.specs.inner.Reads.{TellsMore, ReadsOne, ReadsNext}
 
 -- one record more
@@ -57,6 +57,10 @@ module _ {R : Type 0} {remaining : R → Option (List ℕ)} where
 
   pub told-all : {t u : TableRecords R} {xs : List (List (List ℕ))} → TellsMore remaining t u xs → TellsAll remaining u [] → TellsAll remaining t xs
   told-all {xs = xs} p q text told is = subst (AreTableRecords text) (append-nil (told ++ xs)) (q text (told ++ xs) (p text told is))
+
+  -- those that were told are the first
+  pub told-part : {t u : TableRecords R} {xs : List (List (List ℕ))} → TellsMore remaining t u xs → TellsFront remaining t xs
+  told-part {u = u} p text told is = let h = p text told is in record { records = h.records; state = reader_state u.reader; rest = h.rest; reached = h.reached; told_is = h.told_is }
 
   -- a record was read, and the blanks at the ends of its fields were taken away
   pub read-one : (t u : TableRecords R) (fields : List (List ℕ)) (found : Bool) → found ≡ true

@@ -1,10 +1,11 @@
 -- The fields of a row.
-use Rattle.std.specs.Prelude.{ℕ, ◌≡◌, ◌<◌, ◌+◌, ◌-◌, ◌^◌, ◌==◌, min, Bool, true, false, List, [], length, Option, Some, None, ⊤}
+use Rattle.std.specs.Prelude.{ℕ, ◌≡◌, ◌<◌, ◌≤◌, ◌+◌, ◌-◌, ◌^◌, ◌==◌, min, Bool, true, false, List, [], length, Option, Some, None, ⊤}
 use Rattle.std.specs.List.{list_any}
 use Rattle.csv_rows.specs.declared.place.CellPlace.{CellPlace}
 use Rattle.monitor_tables.specs.declared.fault.MonitorFault.{MonitorFault}
-use Rattle.monitor_tables.specs.declared.fault.MonitorFault.TheVariants.{NotCsv, Memory, Read}
+use Rattle.monitor_tables.specs.declared.fault.MonitorFault.TheVariants.{NotCsv, Extra, Memory, Read}
 use Rattle.csv.specs.Records.{field_at}
+use Rattle.monitor_cells.specs.Cells.{is_some_text}
 
 -- the text that there is, or none
 abbrev pub or_no_text : Option (List ℕ) → List ℕ
@@ -32,6 +33,21 @@ pub record IsFedField (fields : List (List ℕ)) (n : ℕ) : Type 0 where
   pub within : n < length fields
   pub feed : has_feed (record_text fields n) ≡ true
   pub first : (k : ℕ) → k < n → has_feed (record_text fields k) ≡ false
+
+-- no field beyond so many has text
+abbrev pub HasNoExtra : List (List ℕ) → ℕ → Type 0
+HasNoExtra fields width = (n : ℕ) → width ≤ n → n < length fields → is_some_text (record_text fields n) ≡ false
+
+-- this field does, and none before it
+pub record IsExtraField (fields : List (List ℕ)) (width n : ℕ) : Type 0 where
+  pub beyond : width ≤ n
+  pub text : is_some_text (record_text fields n) ≡ true
+  pub first : (k : ℕ) → width ≤ k → k < n → is_some_text (record_text fields k) ≡ false
+
+-- why a record, on a line, has more than so many fields
+abbrev pub IsExtraFault : List (List ℕ) → ℕ → ℕ → MonitorFault → Type 0
+IsExtraFault fields line width (Extra place) = (n : ℕ) × (place ≡ field_placed line n) × IsExtraField fields width n
+IsExtraFault fields line width _ = ⊥
 
 -- Why no record comes after these fields: the first of them that has a line feed, on some line. A refused growth of memory and a failed read
 -- say nothing of them.

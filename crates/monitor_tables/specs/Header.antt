@@ -66,6 +66,7 @@ pub record AreWordColumns (fields : List (List ℕ)) (columns : WordColumns) : T
   pub bus : IsNamedAt (codes "bus") fields columns.bus
   pub sync : IsNamedAt (codes "sync") fields columns.sync
   pub error : IsFoundAt (codes "error") fields columns.error
+  pub width : columns.width ≡ length fields
 
 -- the columns of a table of messages
 pub record AreMessageColumns (fields : List (List ℕ)) (columns : MessageColumns) : Type 0 where
@@ -76,6 +77,7 @@ pub record AreMessageColumns (fields : List (List ℕ)) (columns : MessageColumn
   pub status : IsFoundAt (codes "status") fields columns.status
   pub status2 : IsFoundAt (codes "status2") fields columns.status2
   pub error : IsFoundAt (codes "error") fields columns.error
+  pub width : columns.width ≡ length fields
 
 -- what the rows of a table are: words, if the header names `word` and not `command`; messages, if it names `command` and not `word`
 abbrev pub IsLayoutOf : List (List ℕ) → TableLayout → Type 0

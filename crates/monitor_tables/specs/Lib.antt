@@ -1,8 +1,8 @@
 -- Tables that a bus monitor exports, as recordings.
 pub mod Fields
 pub mod Header
+pub mod Hearing
 pub mod Messages
-pub mod Owed
 pub mod Recording
 pub mod Rows
 pub mod Table

@@ -3,6 +3,7 @@ use Rattle.std.specs.Prelude.{ℕ, ◌≡◌, Bool, false, ◌||◌, if◌then�
 use Rattle.std.specs.Io.Chain.{chain_remaining}
 use Rattle.csv.specs.declared.parser.Config.{Config}
 use Rattle.csv.specs.declared.parser.Terminator.TheVariants.{Any}
+use Rattle.csv.specs.declared.parser.State.{State}
 use Rattle.csv.specs.declared.parser.State.TheVariants.{StartRecord}
 use Rattle.csv.specs.declared.reader.Trim.TheVariants as trim
 use Rattle.csv.specs.Reading.{Reached, AreRecords, Ready, default_config, reader_config, reader_state, reader_trim, source_of, strip_bom}
@@ -57,6 +58,18 @@ pub record HasTold {R : Type 0} (remaining : R → Option (List ℕ)) (text : Li
 -- with these all its records are told
 abbrev pub TellsAll : {R : Type 0} → (R → Option (List ℕ)) → TableRecords R → List (List (List ℕ)) → Type 0
 TellsAll remaining t records = (text : List ℕ) (told : List (List (List ℕ))) → HasTold remaining text told t → AreTableRecords text (told ++ records)
+
+-- just these are the first records of a text: those that a part of it says, from the front on
+pub record AreFirstRecords (text : List ℕ) (told : List (List (List ℕ))) : Type 0 where
+  pub records : List (List (List ℕ))
+  pub state : State
+  pub rest : List ℕ
+  pub reached : Reached table_config StartRecord (table_text text) records state rest
+  pub told_is : told_records records ≡ told
+
+-- with these its first records are told
+abbrev pub TellsFront : {R : Type 0} → (R → Option (List ℕ)) → TableRecords R → List (List (List ℕ)) → Type 0
+TellsFront remaining t records = (text : List ℕ) (told : List (List (List ℕ))) → HasTold remaining text told t → AreFirstRecords text (told ++ records)
 
 -- the records of a table of which the header is read
 abbrev pub records_of : {R : Type 0} → MonitorTable R → TableRecords R

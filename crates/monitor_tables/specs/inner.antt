@@ -1,4 +1,3 @@
 -- What the contracts of private functions speak of.
-pub mod Kept
 pub mod Puts
 pub mod Reads

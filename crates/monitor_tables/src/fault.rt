@@ -1,6 +1,7 @@
 //! Why a table becomes no recording, or only the beginning of one.
 ghost use Rattle.std.specs.Prelude.{◌≡◌};
-ghost use Rattle.monitor_tables.specs.declared.fault.MonitorFault.TheVariants.{Memory, Write};
+ghost use Rattle.monitor_tables.specs.declared.fault.EarlyEnd.TheVariants.{Write};
+ghost use Rattle.monitor_tables.specs.declared.fault.MonitorFault.TheVariants.{Memory};
 
 use crate::column::MonitorColumn;
 use byte_streams::IoFailed;
@@ -29,12 +30,15 @@ pub enum MonitorFault {
     /// The field is no time.
     #[error("table: {0}: not a time: microseconds in decimal digits, as 12.5")]
     Time(CellPlace),
-    /// A word begins before the word above it ends.
-    #[error("table: {0}: the word above ends 20 microseconds after it begins, and this one begins earlier")]
+    /// A word begins before the word above it on its bus ends.
+    #[error("table: {0}: the word above on this bus ends 20 microseconds after it begins, and this one begins earlier")]
     Overlap(CellPlace),
-    /// A message begins before the message above it does.
+    /// A word or a message begins before the one above it does.
     #[error("table: {0}: earlier than the row above")]
     Order(CellPlace),
+    /// A message begins before the words of the message above it on its bus have ended, or between the commands of the one on the other.
+    #[error("table: {0}: the words of the message above on this bus, 20 microseconds each, have not ended, or the second command on the other")]
+    Within(CellPlace),
     /// The field is no bus.
     #[error("table: {0}: not a bus: A or B")]
     Bus(CellPlace),
@@ -47,6 +51,9 @@ pub enum MonitorFault {
     /// The field is no list of words.
     #[error("table: {0}: not words of four hexadecimal digits with spaces between them")]
     Words(CellPlace),
+    /// The field is beyond those of the header, and has text.
+    #[error("table: {0}: text beyond the columns of the header")]
+    Extra(CellPlace),
     /// A message has an error.
     #[error("table: {0}: the row does not tell which of its words has the error")]
     Unclear(CellPlace),
@@ -56,9 +63,6 @@ pub enum MonitorFault {
     /// The table can't be read on.
     #[error("input: read failed")]
     Read,
-    /// The recording can't be written on.
-    #[error("output: write failed")]
-    Write,
 }
 
 impl From<AllocError> for MonitorFault {
@@ -77,10 +81,32 @@ impl<T: Drop> From<AllocFailed<T>> for MonitorFault {
     }
 }
 
-impl From<IoFailed> for MonitorFault {
-    ghost from_gives = { λ _ fault. fault ≡ Write };
+/// A row of a table that was refused, or can't be read.
+#[derive(Clone, Copy, Debug, Error)]
+#[error("{fault}; rows written: {rows}")]
+pub struct RefusedRow {
+    pub fault: MonitorFault,
+    /// The line of the file on which the row is, or was looked for, from 1.
+    pub row: u64,
+    /// Of how many rows before it the recording was written.
+    pub rows: u64,
+}
 
-    fn from(_failed: IoFailed) -> MonitorFault {
-        MonitorFault::Write
+/// Why a recording ends early.
+#[derive(Clone, Copy, Debug, Error)]
+pub enum EarlyEnd {
+    /// A row was refused: the last line that was written says so.
+    #[error("{0}")]
+    Refused(RefusedRow),
+    /// The recording can't be written on.
+    #[error("output: write failed")]
+    Write,
+}
+
+impl From<IoFailed> for EarlyEnd {
+    ghost from_gives = { λ _ end. end ≡ Write };
+
+    fn from(_failed: IoFailed) -> EarlyEnd {
+        EarlyEnd::Write
     }
 }

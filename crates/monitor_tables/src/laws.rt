@@ -1,7 +1,12 @@
-//! What recordings say. The function does nothing, and its contract is the law.
-ghost use Rattle.monitor_tables.specs.Recording.{ReadBackLaw};
+//! What recordings say. The functions do nothing, and their contracts are the laws.
+ghost use Rattle.monitor_tables.specs.Recording.{ReadBackLaw, EarlyEndLaw};
 
-/// A recording is a script that states answers. Read back, it says what was heard, in order, and a silent slot just where one is owed.
+/// A recording is a script that states answers. Read back, it says just what was heard, in order.
 pub fn recordings_read_back()
     ensures { ReadBackLaw }
+{}
+
+/// A recording that ends early is refused by its last line, and so is no script that could pass.
+pub fn early_ends_are_refused()
+    ensures { EarlyEndLaw }
 {}

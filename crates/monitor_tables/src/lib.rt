@@ -4,16 +4,17 @@
 mod column;
 mod fault;
 mod header;
+mod hearing;
 pub mod laws;
 mod lines;
 mod message_times;
 mod messages;
-mod owed;
 mod recording;
 mod records;
 mod words;
 
 pub use column::MonitorColumn;
-pub use fault::MonitorFault;
+pub use fault::{EarlyEnd, MonitorFault, RefusedRow};
 pub use header::LeftOutColumn;
+pub use lines::end_early;
 pub use recording::{MonitorTable, open_table, write_recording};

@@ -1,19 +1,20 @@
 //! What was heard, as lines of a script.
-ghost use Rattle.std.specs.Prelude.{◌≡◌, ◌≤◌, ◌<◌, ◌+◌, ◌^◌, ◌++◌, ◌∷◌, [], ◌||◌, true, length, not, is_ok, OnOk};
+ghost use Rattle.std.specs.Prelude.{◌≡◌, ◌≤◌, ◌<◌, ◌+◌, ◌^◌, ◌++◌, ◌∷◌, [], ◌||◌, true, length, not, is_ok, decimal, codes, OnOk};
 ghost use Rattle.std.specs.Io.KnownBytes.{Appends};
 ghost use Rattle.arrayvec.specs.ArrayString.{array_string_len};
 ghost use Rattle.bus_terminal.specs.Answer.{shown_word};
 ghost use Rattle.script_lines.specs.EventLine.{event_line};
 ghost use Rattle.script_lines.specs.Transcript.{sent_text};
 ghost use Rattle.monitor_cells.specs.Cells.{is_time_text};
-ghost use Rattle.monitor_tables.specs.Recording.{slot_line, has_slot, time_line, heard_line, noted_text, HasWords};
+ghost use Rattle.monitor_tables.specs.Recording.{time_line, heard_line, noted_text, refused_line, HasWords, PutsRefusal};
 ghost use Rattle.monitor_tables.specs.inner.Puts.{PutsNoted};
 
-use crate::owed::OwedSlot;
+use crate::fault::{EarlyEnd, RefusedRow};
 use arrayvec::ArrayString;
 use bus_terminal::{Answer, Event, Sent};
 use bus_word::Raw;
 use byte_streams::{IoFailed, Sink, write_all};
+use itoa::Buffer;
 use monitor_cells::{HeardItem, kind_of_sync};
 use script_lines::{push_answer, write_event};
 
@@ -29,6 +30,15 @@ fn push_event(lines: &mut HeardLines, event: &Event)
     lines.push_str("\n");
 }
 
+/// Writes the line of an event that may have come or not.
+fn push_maybe(lines: &mut HeardLines, event: &Event)
+    requires { array_string_len lines.old ≤ 90 }
+    ensures { lines.new.bytes ≡ lines.old.bytes ++ (codes "#? " ++ event_line event.now) }
+{
+    lines.push_str("#? ");
+    push_event(lines, event);
+}
+
 /// Writes the line of a word that the terminal sent, behind what tells how it stands there.
 fn push_sent(lines: &mut HeardLines, front: &str, sent: Sent)
     requires room { array_string_len lines.old ≤ 100 }
@@ -41,7 +51,7 @@ fn push_sent(lines: &mut HeardLines, front: &str, sent: Sent)
 
 /// Writes what was heard.
 fn push_heard(lines: &mut HeardLines, heard: &HeardItem)
-    requires { array_string_len lines.old ≤ 100 }
+    requires { array_string_len lines.old ≤ 90 }
     ensures { lines.new.bytes ≡ lines.old.bytes ++ heard_line heard.now }
 {
     match heard {
@@ -55,30 +65,8 @@ fn push_heard(lines: &mut HeardLines, heard: &HeardItem)
         HeardItem::Noise(bus) => push_event(lines, &Event::Noise(*bus)),
         HeardItem::Reply(sent) => push_sent(lines, "slot\n#> ", *sent),
         HeardItem::Late(sent) => push_sent(lines, "# later than no response: ", *sent),
-        HeardItem::Pause => {}
-    }
-}
-
-/// Whether a slot in which the terminal is silent stands before this: at the end of a pause, and, where one is owed, before any other event
-/// that is no word of the terminal.
-fn has_slot(is_owed: bool, heard: &HeardItem) -> bool
-    ensures { result ≡ has_slot is_owed heard.now }
-{
-    match heard {
-        HeardItem::Pause => true,
-        HeardItem::Reply(_) | HeardItem::Late(_) => false,
-        HeardItem::Gap(_) | HeardItem::Word(_, _, _) | HeardItem::Noise(_) => is_owed,
-    }
-}
-
-/// Writes a slot in which the terminal is silent, if there is one.
-fn push_slot(lines: &mut HeardLines, has_slot: bool)
-    requires { array_string_len lines.old ≤ 10 }
-    ensures bytes { lines.new.bytes ≡ lines.old.bytes ++ slot_line has_slot }
-    ensures len { array_string_len lines.new ≤ array_string_len lines.old + 5 }
-{
-    if has_slot {
-        lines.push_str("slot\n");
+        HeardItem::Slot | HeardItem::Pause => push_event(lines, &Event::Slot),
+        HeardItem::MaybeGap(bus) => push_maybe(lines, &Event::Gap(*bus)),
     }
 }
 
@@ -96,13 +84,12 @@ fn push_time(lines: &mut HeardLines, time: &str)
     }
 }
 
-/// The lines of what was heard, at this time: before it a slot that is owed, where it stands there.
-fn heard_lines(is_owed: bool, time: &str, heard: &HeardItem) -> HeardLines
+/// The lines of what was heard, at this time.
+fn heard_lines(time: &str, heard: &HeardItem) -> HeardLines
     requires { length time.now ≤ 60 }
-    ensures { result.bytes ≡ noted_text is_owed (record { time = time.now; heard = heard.now }) }
+    ensures { result.bytes ≡ noted_text (record { time = time.now; heard = heard.now }) }
 {
     let mut lines = HeardLines::new();
-    push_slot(&mut lines, has_slot(is_owed, heard));
     push_time(&mut lines, time);
     push_heard(&mut lines, heard);
     lines
@@ -121,33 +108,51 @@ fn has_words(heard: &HeardItem)
         HeardItem::Word(_, _, bits) => has_16_bits(*bits),
         HeardItem::Reply(sent) => has_16_bits(sent.bits),
         HeardItem::Late(sent) => has_16_bits(sent.bits),
-        HeardItem::Gap(_) | HeardItem::Noise(_) | HeardItem::Pause => {}
+        _ => {}
     }
 }
 
 /// Writes what was heard, at this time, which may be left out.
-pub fn put_heard<W: Sink>(
-    sink: &mut W,
-    owed: &mut OwedSlot,
-    time: &str,
-    heard: HeardItem,
-) -> Result<(), IoFailed>
+pub fn put_heard<W: Sink>(sink: &mut W, time: &str, heard: HeardItem) -> Result<(), IoFailed>
     requires { is_time_text time.now ≡ true }
-    ensures puts { OnOk result (PutsNoted W.written owed.old owed.new sink.old sink.new (record { time = time.now; heard = heard } ∷ [])) }
+    ensures puts { OnOk result (PutsNoted W.written sink.old sink.new (record { time = time.now; heard = heard } ∷ [])) }
     ensures failed { W.has_failed sink.new ≡ (W.has_failed sink.old || not (is_ok result)) }
 {
     has_words(&heard);
-    let lines = heard_lines(owed.is_owed(), time, &heard);
-    owed.hear(&heard);
+    let lines = heard_lines(time, &heard);
     write_all(sink, lines.as_str().as_bytes())
 }
 
-/// Writes the slot that is owed at the end.
-pub fn put_last_slot<W: Sink>(sink: &mut W, owed: &OwedSlot) -> Result<(), IoFailed>
-    ensures wrote { OnOk result (Appends (W.written sink.old) (W.written sink.new) (slot_line owed.now.is_owed)) }
-    ensures failed { W.has_failed sink.new ≡ (W.has_failed sink.old || not (is_ok result)) }
+/// Writes a number.
+fn push_number(lines: &mut HeardLines, number: u64)
+    requires { array_string_len lines.old ≤ 100 }
+    ensures bytes { lines.new.bytes ≡ lines.old.bytes ++ decimal number }
+    ensures len { array_string_len lines.new ≤ array_string_len lines.old + 40 }
+{
+    let mut buffer = Buffer::new();
+    lines.push_str(buffer.format(number));
+}
+
+/// The last line of a recording that ends early: this row was refused, and so many before it were written.
+fn refused_line(row: u64, rows: u64) -> HeardLines
+    ensures { result.bytes ≡ refused_line row rows }
 {
     let mut lines = HeardLines::new();
-    push_slot(&mut lines, owed.is_owed());
-    write_all(sink, lines.as_str().as_bytes())
+    lines.push_str("#! row ");
+    push_number(&mut lines, row);
+    lines.push_str(" was refused; rows written: ");
+    push_number(&mut lines, rows);
+    lines.push_str("\n");
+    lines
+}
+
+/// Writes the last line of a recording that ends early at this row.
+pub fn end_early<W: Sink>(sink: &mut W, refused: RefusedRow) -> EarlyEnd
+    ensures { PutsRefusal W.written W.has_failed sink.old sink.new refused result }
+{
+    let line = refused_line(refused.row, refused.rows);
+    match write_all(sink, line.as_str().as_bytes()) {
+        Ok(()) => EarlyEnd::Refused(refused),
+        Err(_) => EarlyEnd::Write,
+    }
 }

@@ -2,18 +2,20 @@
 ghost use Rattle.std.specs.Prelude.{◌≡◌, ◌++◌, false, OnOk, IfOk};
 ghost use Rattle.csv.specs.Records.{fields_of};
 ghost use Rattle.monitor_tables.specs.Header.{AreMessageColumns};
-ghost use Rattle.monitor_tables.specs.Rows.{has_text_in, SaysSomeWord, SaysWords, IsMessageRow};
-ghost use Rattle.monitor_tables.specs.Messages.{word_by, is_own_status, status_heard, command_heard, data_heard, with_gap, is_from_controller, commands_heard, reply_heard, message_heard};
+ghost use Rattle.monitor_tables.specs.Rows.{has_error_in, SaysSomeWord, SaysWords, IsMessageRow};
+ghost use Rattle.monitor_tables.specs.Messages.{word_by, is_own_status, status_heard, command_heard, data_heard, gaps_heard, behind_gaps, may_be_late, is_from_controller, commands_heard, reply_heard, message_heard};
 
 use crate::column::MonitorColumn;
 use crate::fault::MonitorFault;
 use crate::header::{find_column, need_column};
-use crate::records::{field_of, field_place};
-use crate::words::{has_text_in, read_bus_field, read_time_field, read_word_field};
+use crate::records::{field_of, field_place, refuse_extra};
+use crate::words::{has_error_in, has_text_in, read_bus_field, read_time_field, read_word_field};
 use bus_terminal::Sent;
 use bus_word::{Bus, Command};
 use csv::ByteRecord;
-use monitor_cells::{HeardItem, MonitorTime, WordSync, kind_of_sync, read_words_cell};
+use monitor_cells::{
+    HeardItem, MonitorTime, WordSync, is_meant_for, kind_of_sync, read_words_cell,
+};
 use std::alloc::{AllocError, Global};
 
 /// Where the rows have their fields, by numbers from 0.
@@ -27,6 +29,8 @@ pub struct MessageColumns {
     status: Option<usize>,
     status2: Option<usize>,
     error: Option<usize>,
+    /// How many fields the header has.
+    width: usize,
 }
 
 /// A row: a message on a bus. What is not there was not seen.
@@ -93,15 +97,16 @@ impl MessageColumns {
             status: find_column(header, line, MonitorColumn::Status)?,
             status2: find_column(header, line, MonitorColumn::Status2)?,
             error: find_column(header, line, MonitorColumn::Error)?,
+            width: header.len(),
         })
     }
 
     /// Refuses a row with an error.
     fn refuse_error(&self, row: &ByteRecord, line: u64) -> Result<(), MonitorFault>
-        ensures { OnOk result (has_text_in (fields_of row.now) self.now.error ≡ false) }
+        ensures { OnOk result (has_error_in (fields_of row.now) self.now.error ≡ false) }
     {
         match self.error {
-            Some(field) if has_text_in(row, Some(field)) => {
+            Some(field) if has_error_in(row, Some(field)) => {
                 Err(MonitorFault::Unclear(field_place(line, field)))
             }
             _ => Ok(()),
@@ -117,6 +122,7 @@ impl MessageColumns {
     ) -> Result<MessageRow, MonitorFault>
         ensures { IfOk result (IsMessageRow self.now (fields_of row.now)) }
     {
+        refuse_extra(row, line, self.width)?;
         self.refuse_error(row, line)?;
         Ok(MessageRow {
             time: read_time_field(row, line, self.time)?,
@@ -131,7 +137,7 @@ impl MessageColumns {
 }
 
 /// Whether a status word is that of the terminal of this address.
-fn is_own_status(address: u8, status: Option<u16>) -> bool
+pub fn is_own_status(address: u8, status: Option<u16>) -> bool
     ensures { result ≡ is_own_status address status }
 {
     match status {
@@ -197,14 +203,31 @@ fn push_data(
     Ok(())
 }
 
-/// Pushes the gap behind words, if there are any.
-fn push_gap(heard: &mut Vec<HeardItem>, bus: Bus) -> Result<(), AllocError>
-    ensures { OnOk result (heard.new.items ≡ with_gap bus heard.old.items) }
+/// Pushes the gap before words, and the second one, which may have come if they may be late.
+fn push_gaps(heard: &mut Vec<HeardItem>, bus: Bus, may_be_late: bool) -> Result<(), AllocError>
+    ensures { OnOk result (heard.new.items ≡ heard.old.items ++ gaps_heard may_be_late bus) }
 {
-    if !heard.is_empty() {
-        heard.push(HeardItem::Gap(bus))?;
+    heard.push(HeardItem::Gap(bus))?;
+    if may_be_late {
+        heard.push(HeardItem::MaybeGap(bus))?;
     }
     Ok(())
+}
+
+/// Pushes words, if there are any, behind the gap before them.
+fn push_part(
+    heard: &mut Vec<HeardItem>,
+    bus: Bus,
+    may_be_late: bool,
+    part: &[HeardItem],
+) -> Result<(), AllocError>
+    ensures { OnOk result (heard.new.items ≡ heard.old.items ++ behind_gaps may_be_late bus part.now) }
+{
+    if part.is_empty() {
+        return Ok(());
+    }
+    push_gaps(heard, bus, may_be_late)?;
+    heard.extend_from_slice(part)
 }
 
 impl MessageRow {
@@ -215,9 +238,18 @@ impl MessageRow {
         self.command2.is_none() && !Command::of(self.command).transmit()
     }
 
-    /// What the controller sends, with the gap behind it.
+    /// Whether the reply is that of another, from which the terminal is to receive: it may have given up waiting for that.
+    fn may_be_late(&self, address: u8) -> bool
+        ensures { result ≡ may_be_late address self.now }
+    {
+        self.command2.is_some()
+            && is_meant_for(address, self.command)
+            && !is_own_status(address, self.status)
+    }
+
+    /// What the controller sends.
     fn commands_heard(&self, alloc: Global) -> Result<Vec<HeardItem>, AllocError>
-        ensures { IfOk result (λ heard. heard.items ≡ with_gap self.now.bus (commands_heard self.now)) }
+        ensures { IfOk result (λ heard. heard.items ≡ commands_heard self.now) }
     {
         let mut heard = Vec::new(alloc);
         push_command(&mut heard, self.bus, Some(self.command))?;
@@ -225,13 +257,12 @@ impl MessageRow {
         if self.is_from_controller() {
             push_data(&mut heard, false, self.bus, self.words.as_slice())?;
         }
-        push_gap(&mut heard, self.bus)?;
         Ok(heard)
     }
 
-    /// What the terminal sends that is to reply first, with the gap behind it.
+    /// What the terminal sends that is to reply first.
     fn reply_heard(&self, alloc: Global, address: u8) -> Result<Vec<HeardItem>, AllocError>
-        ensures { IfOk result (λ heard. heard.items ≡ with_gap self.now.bus (reply_heard address self.now)) }
+        ensures { IfOk result (λ heard. heard.items ≡ reply_heard address self.now) }
     {
         let mut heard = Vec::new(alloc);
         push_status(&mut heard, address, self.bus, self.status)?;
@@ -239,17 +270,15 @@ impl MessageRow {
             let is_own = is_own_status(address, self.status);
             push_data(&mut heard, is_own, self.bus, self.words.as_slice())?;
         }
-        push_gap(&mut heard, self.bus)?;
         Ok(heard)
     }
 
-    /// The status word of the terminal that received what the other sent, with the gap behind it.
+    /// The status word of the terminal that received what the other sent.
     fn last_heard(&self, alloc: Global, address: u8) -> Result<Vec<HeardItem>, AllocError>
-        ensures { IfOk result (λ heard. heard.items ≡ with_gap self.now.bus (status_heard address self.now.bus self.now.status2)) }
+        ensures { IfOk result (λ heard. heard.items ≡ status_heard address self.now.bus self.now.status2) }
     {
         let mut heard = Vec::new(alloc);
         push_status(&mut heard, address, self.bus, self.status2)?;
-        push_gap(&mut heard, self.bus)?;
         Ok(heard)
     }
 
@@ -258,8 +287,15 @@ impl MessageRow {
         ensures { IfOk result (λ heard. heard.items ≡ message_heard address self.now) }
     {
         let mut heard = self.commands_heard(alloc)?;
-        heard.extend_from_slice(self.reply_heard(alloc, address)?.as_slice())?;
-        heard.extend_from_slice(self.last_heard(alloc, address)?.as_slice())?;
+        let reply = self.reply_heard(alloc, address)?;
+        push_part(
+            &mut heard,
+            self.bus,
+            self.may_be_late(address),
+            reply.as_slice(),
+        )?;
+        let last = self.last_heard(alloc, address)?;
+        push_part(&mut heard, self.bus, false, last.as_slice())?;
         Ok(heard)
     }
 }

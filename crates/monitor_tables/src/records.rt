@@ -1,8 +1,8 @@
 //! The records of a table, one after the other.
-ghost use Rattle.std.specs.Prelude.{◌≡◌, [], IfOk, IfErr, IfSome, MatchOption};
+ghost use Rattle.std.specs.Prelude.{◌≡◌, [], IfOk, IfErr, IfSome, MatchOption, MatchResult};
 ghost use Rattle.csv.specs.Records.{fields_of};
 ghost use Rattle.monitor_cells.specs.Cells.{is_some_text};
-ghost use Rattle.monitor_tables.specs.Fields.{record_text, field_placed, HasNoFeed, IsFedField, IsRecordFault};
+ghost use Rattle.monitor_tables.specs.Fields.{record_text, field_placed, HasNoFeed, IsFedField, HasNoExtra, IsExtraFault, IsRecordFault};
 ghost use Rattle.monitor_tables.specs.Table.{is_some_record, HasTold};
 ghost use Rattle.monitor_tables.specs.inner.Reads.{ReadsOne, ReadsNext};
 
@@ -51,6 +51,18 @@ pub fn is_some_field(row: &ByteRecord, field: usize) -> bool
     !field_of(row, field).is_empty()
 }
 
+/// Refuses a record that has text in a field beyond so many.
+pub fn refuse_extra(row: &ByteRecord, line: u64, width: usize) -> Result<(), MonitorFault>
+    ensures { MatchResult result (λ _. HasNoExtra (fields_of row.now) width) (IsExtraFault (fields_of row.now) line width) }
+{
+    'fields: for field in width..row.len() {
+        if is_some_field(row, field) {
+            return Err(MonitorFault::Extra(field_place(line, field)));
+        }
+    }
+    Ok(())
+}
+
 /// Whether there is text in any field of a record.
 fn is_some_record(row: &ByteRecord) -> bool
     ensures { result ≡ is_some_record (fields_of row.now) }
@@ -69,7 +81,7 @@ pub struct TableRecords<R: Read + Drop> {
     reader: Reader<Chain<R, &'static [u8]>>,
     /// The latest record, with no blanks at the ends of its fields.
     pub row: ByteRecord,
-    /// The line of the file that it is, from 1.
+    /// The line of the file that it is, from 1; where a record can't be read, the line on which it was looked for.
     pub line: u64,
 }
 
@@ -103,7 +115,7 @@ impl<R: Read + Drop> TableRecords<R> {
         ensures reads { IfOk result (ReadsOne R.remaining self.old self.new) }
         ensures refused { IfErr result (IsRecordFault (fields_of self.new.row)) }
     {
-        let first_line = self.reader.position().line();
+        self.line = self.reader.position().line();
         match self.reader.read_byte_record(&mut self.row) {
             Ok(true) => {}
             Ok(false) => return Ok(false),
@@ -115,7 +127,7 @@ impl<R: Read + Drop> TableRecords<R> {
             }
         }
         if let Some(field) = fed_field(&self.row) {
-            return Err(MonitorFault::NotCsv(field_place(first_line, field)));
+            return Err(MonitorFault::NotCsv(self.place(field)));
         }
         self.line = self.reader.position().line().saturating_sub(1);
         self.row.trim()?;

@@ -4,16 +4,17 @@ ghost use Rattle.csv.specs.Records.{fields_of};
 ghost use Rattle.monitor_cells.specs.Cells.{bus_said, word_said};
 ghost use Rattle.monitor_tables.specs.Fields.{record_text};
 ghost use Rattle.monitor_tables.specs.Header.{AreWordColumns};
-ghost use Rattle.monitor_tables.specs.Rows.{has_text_in, SaysTime, seen_said, IsWordRow};
+ghost use Rattle.monitor_tables.specs.Rows.{has_text_in, says_no_error, has_error_in, SaysTime, seen_said, IsWordRow};
 
 use crate::column::MonitorColumn;
 use crate::fault::MonitorFault;
 use crate::header::{find_column, need_column};
-use crate::records::{field_of, field_place, is_some_field};
+use crate::records::{field_of, field_place, is_some_field, refuse_extra};
 use bus_word::Bus;
 use csv::ByteRecord;
 use monitor_cells::{
-    MonitorTime, SeenWord, WordRow, read_bus_cell, read_sync_cell, read_time, read_word_cell,
+    MonitorTime, SeenWord, WordRow, is_headed, read_bus_cell, read_sync_cell, read_time,
+    read_word_cell,
 };
 
 /// Where the rows have their fields, by numbers from 0.
@@ -24,6 +25,8 @@ pub struct WordColumns {
     sync: usize,
     word: usize,
     error: Option<usize>,
+    /// How many fields the header has.
+    width: usize,
 }
 
 /// The time in a field of a row.
@@ -70,6 +73,23 @@ pub fn has_text_in(row: &ByteRecord, field: Option<usize>) -> bool
     }
 }
 
+/// Whether a text in the column `error` says that there is none.
+fn says_no_error(text: &[u8]) -> bool
+    ensures { result ≡ says_no_error text.now }
+{
+    is_headed("0", text) || is_headed("no", text) || is_headed("none", text)
+}
+
+/// Whether a row tells an error in a field, if there is such a column.
+pub fn has_error_in(row: &ByteRecord, field: Option<usize>) -> bool
+    ensures { result ≡ has_error_in (fields_of row.now) field }
+{
+    match field {
+        Some(field) => is_some_field(row, field) && !says_no_error(field_of(row, field)),
+        None => false,
+    }
+}
+
 impl WordColumns {
     /// The columns of a header, which names `word` in this field.
     pub fn read(header: &ByteRecord, line: u64, word: usize) -> Result<WordColumns, MonitorFault>
@@ -81,6 +101,7 @@ impl WordColumns {
             sync: need_column(header, line, MonitorColumn::Sync)?,
             word,
             error: find_column(header, line, MonitorColumn::Error)?,
+            width: header.len(),
         })
     }
 
@@ -88,7 +109,7 @@ impl WordColumns {
     fn read_seen(&self, row: &ByteRecord, line: u64) -> Result<SeenWord, MonitorFault>
         ensures { IfOk result (λ word. seen_said self.now (fields_of row.now) ≡ Some word) }
     {
-        if has_text_in(row, self.error) {
+        if has_error_in(row, self.error) {
             return Ok(SeenWord::Noise);
         }
         let Some(sync) = read_sync_cell(field_of(row, self.sync)) else {
@@ -102,6 +123,7 @@ impl WordColumns {
     pub fn read_row(&self, row: &ByteRecord, line: u64) -> Result<WordRow, MonitorFault>
         ensures { IfOk result (IsWordRow self.now (fields_of row.now)) }
     {
+        refuse_extra(row, line, self.width)?;
         Ok(WordRow {
             time: read_time_field(row, line, self.time)?,
             bus: read_bus_field(row, line, self.bus)?,

@@ -1,11 +1,5 @@
-use Rattle.csv.specs.Records.{fields_of}
-use Rattle.monitor_tables.proofs.ReadLaws.{told-first, next-told}
+use Rattle.monitor_tables.proofs.ReadLaws.{told-first}
 use Rattle.monitor_tables.proofs.recording.open_table.Goals as goal
 
-pub returns : goal.returns
-returns g c = (
-  fields_of c.next.new.self.row,
-  c.in_ok-layout.ensures,
-  (_, c.in_ok-left_out.ensures),
-  told-first (g.R.Read.remaining c.args.source) c.new-records.ensures.told (next-told _ _ _ c.if-not-branch.false c.in_ok-next.ensures.reads),
-)
+pub returns-in-Ok-clause-opened : goal.returns-in-Ok-clause-opened
+returns-in-Ok-clause-opened g c = let e = c.in-Ok.ensures in (e.0, e.1, e.2, told-first (g.R.Read.remaining c.args.source) c.new-records.ensures.told e.3)

@@ -1,14 +1,14 @@
-use Rattle.std.proofs.Common.{◌∙◌, arith}
+use Rattle.std.proofs.Common.{◌∙◌}
+use Rattle.std.proofs.lemmas.Result.{on_ok_weaker}
 use Rattle.monitor_tables.proofs.RowLaws.{message-puts}
 use Rattle.monitor_tables.proofs.recording.put_message_row.Goals as goal
 
-pub returns : goal.returns
-returns g c =
-    let row = c.in_ok-row.row in (
-      row,
-      c.in_ok-row.ensures,
-      message-puts c.args.times.now row c.is_pause_between-is_pause.result c.as_str.result.now c.as_slice.result.now c.is_pause_between-is_pause.ensures c.as_str.ensures.value (c.as_slice.ensures.value ∙ c.in_ok-heard.ensures)
-          c.in_ok-put_gaps.ensures c.in_ok-put_pause.ensures c.in_ok-put_message.ensures,
+pub returns-clause-puts : goal.returns-clause-puts
+returns-clause-puts g c =
+    on_ok_weaker c.put_message.result
+    (λ puts. (
+      message-puts c.args.times.now c.args.message.now.row c.silence_between-silence.result c.late_gap-late.result c.as_str.result.now c.as_slice.result.now
+          c.silence_between-silence.ensures c.late_gap-late.ensures c.as_str.ensures.value (c.as_slice.ensures.value ∙ c.requires.heard) c.in_ok-put_silence.ensures.puts puts,
       c.take.ensures,
-      omega (arith, c.if-row-times.false),
-    )
+    ))
+    c.put_message.ensures.puts

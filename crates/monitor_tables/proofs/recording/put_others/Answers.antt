@@ -4,10 +4,10 @@ use Rattle.monitor_tables.proofs.PutLaws.{puts-nothing, puts-joined, untimed-tak
 use Rattle.monitor_tables.proofs.recording.put_others.Goals as goal
 
 pub loop-item-init : goal.loop-item-init
-loop-item-init g c = puts-nothing c.args.owed.now c.args.sink.now
+loop-item-init g c = puts-nothing c.args.sink.now
 
 pub loop-item-preserved : goal.loop-item-preserved
 loop-item-preserved g c =
-    subst (PutsNoted g.W.Sink.written c.args.owed.now c.put_heard.new.owed c.args.sink.now c.put_heard.new.sink)
+    subst (PutsNoted g.W.Sink.written c.args.sink.now c.put_heard.new.sink)
     (sym (untimed-taken c.args.heard.now c.loop-item.item-index _ (omega (arith, c.loop-item-test.true))))
     (puts-joined c.loop-item.invariant c.in_ok-put_heard.ensures.puts)

@@ -5,4 +5,4 @@ use Rattle.monitor_tables.proofs.recording.put_others.Given as goal
 
 -- the lines of the items so far were written
 abbrev pub invariant-loop-item : goal.invariant-loop-item
-invariant-loop-item g l = PutsNoted g.W.Sink.written l.fn.owed l.owed l.fn.sink l.sink (untimed (take l.item-index l.heard))
+invariant-loop-item g l = PutsNoted g.W.Sink.written l.fn.sink l.sink (untimed (take l.item-index l.heard))

@@ -1,16 +1,32 @@
-use Rattle.monitor_tables.specs.Rows.{listening_first}
-use Rattle.monitor_tables.proofs.ReadLaws.{nothing-told, told-joined, told-all, next-told, next-all}
+use Rattle.std.proofs.Common.{[], ◌∷◌, ◌++◌, length-append, refl, ap, ◌∙◌, arith}
+use Rattle.monitor_cells.specs.Cells.{is_time_text}
+use Rattle.monitor_tables.proofs.ReadLaws.{nothing-told, told-joined, told-all, told-part}
 use Rattle.monitor_tables.proofs.TableLaws.{words-none, words-more}
 use Rattle.monitor_tables.proofs.recording.put_word_rows.Goals as goal
 
 pub rows-init : goal.rows-init
-rows-init g c = (_, nothing-told _, words-none g.W.Sink.written c.args.columns.now (listening_first c.args.setup.now) c.new-listening.result c.args.owed.now c.args.sink.now c.new-listening.ensures)
+rows-init g c = ([], refl, nothing-told _, words-none g.W.Sink.written c.args.columns.now c.args.hearing.now c.args.sink.now c.requires)
 
 pub rows-preserved : goal.rows-preserved
 rows-preserved g c =
     let so = c.rows.invariant in
-    let e = c.in_ok-put_word_row.ensures in
-    (_, told-joined so.1 (next-told _ _ _ c.if-not-branch.false c.in_ok-next.ensures.reads), words-more _ e.0 so.2 e.1 e.2 e.3 e.4)
+    let next = rw c.in-Ok-Some.field-0-is at c.in-Ok-Some.ensures in
+    let puts = c.in_ok-put_word_row-in-Ok-Some.ensures.puts in
+    (so.0 ++ next.0 ∷ [], omega (arith, so.1, length-append so.0 (next.0 ∷ [])), told-joined so.2 next.2, words-more next.0 c.in-Ok-Some.row so.3 next.1 puts.0 puts.1 next.3)
 
-pub returns-then-not-branch : goal.returns-then-not-branch
-returns-then-not-branch g c = let so = c.rows.invariant in (so.0, told-all so.1 (next-all _ _ _ c.if-not-branch.true c.in_ok-next.ensures.reads), so.2)
+pub returns-in-Ok-None-clause-puts : goal.returns-in-Ok-None-clause-puts
+returns-in-Ok-None-clause-puts g c = let so = c.rows.invariant in (so.0, (so.1, told-all so.2 (rw c.in-Ok-None.field-0-is at c.in-Ok-None.ensures)), so.3)
+
+pub returns-in-Err-clause-puts : goal.returns-in-Err-clause-puts
+returns-in-Err-clause-puts g c = let so = c.rows.invariant in (so.0, (so.1, told-part so.2), so.3)
+
+pub returns-clause-puts : goal.returns-clause-puts
+returns-clause-puts g c = let so = c.rows.invariant in (so.0, (omega (arith, so.1, c.rows-test.false), told-part so.2), so.3)
+
+pub put_word_row-requires-clause-text : goal.put_word_row-requires-clause-text
+put_word_row-requires-clause-text g c =
+    let next = rw c.in-Ok-Some.field-0-is at c.in-Ok-Some.ensures in
+    ap is_time_text next.1.time.same ∙ next.1.time.is.plain
+
+pub put_word_row-requires-clause-held : goal.put_word_row-requires-clause-held
+put_word_row-requires-clause-held g c = c.rows.invariant.3.timed

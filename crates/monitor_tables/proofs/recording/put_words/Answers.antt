@@ -1,10 +1,12 @@
-use Rattle.monitor_tables.proofs.TableLaws.{words-end}
+use Rattle.monitor_tables.proofs.TableLaws.{words-whole, words-part}
 use Rattle.monitor_tables.proofs.recording.put_words.Goals as goal
 
-pub returns : goal.returns
-returns g c =
-    let rows = c.in_ok-listening.ensures in (
-      rows.0,
-      rows.1,
-      words-end c.last_gap.result c.last_gap-2.result rows.2 c.last_gap.ensures c.last_gap-2.ensures c.in_ok-put_some.ensures c.in_ok-put_some-2.ensures,
-    )
+pub returns-in_ok-put_silence-in-None-clause-puts : goal.returns-in_ok-put_silence-in-None-clause-puts
+returns-in_ok-put_silence-in-None-clause-puts g c =
+    words-whole c.in_ok-put.put c.in-None.is c.new-hearing.ensures c.in_ok-put.ensures.puts c.in_ok-put_held.ensures.puts c.last_silence.ensures c.in_ok-put_silence-in-None.ensures.puts
+
+pub returns-in-Some-clause-puts : goal.returns-in-Some-clause-puts
+returns-in-Some-clause-puts g c = words-part c.in_ok-put.put _ c.in-Some.is c.new-hearing.ensures c.in_ok-put.ensures.puts c.in_ok-put_held.ensures.puts.0
+
+pub put_held-requires : goal.put_held-requires
+put_held-requires g c = c.in_ok-put.ensures.puts.2.timed

@@ -1,0 +1,73 @@
+//! The words of a table, in the order in which they are heard or sent.
+ghost use Rattle.std.specs.Prelude.{◌≡◌};
+ghost use Rattle.monitor_tables.specs.Hearing.{hearing_first, begin_beside, comes_first, end_read, overlaps, is_early};
+
+use bus_word::Bus;
+use monitor_cells::{Listening, RecordingSetup, WordRow, is_before_end, word_end};
+use terminal_state::same_bus;
+
+/// What was heard so far, and the word that was read and may be heard later than the next one.
+#[derive(Clone, Copy)]
+pub struct Hearing {
+    /// The last words that were heard.
+    pub listening: Listening,
+    /// The word that is held back, if there is one.
+    pub held: Option<WordRow>,
+}
+
+/// When the word of a row begins, if that is on the other bus.
+pub fn begin_beside(bus: Bus, row: &WordRow) -> Option<u64>
+    ensures { result ≡ begin_beside bus row.now }
+{
+    if same_bus(bus, row.bus) {
+        None
+    } else {
+        Some(row.time.nanos)
+    }
+}
+
+/// Whether a word is heard, or sent, before one above it, which is on the other bus.
+pub fn comes_first(listening: &Listening, row: &WordRow, held: &WordRow) -> bool
+    ensures { result ≡ comes_first listening.now row.now held.now }
+{
+    !same_bus(row.bus, held.bus) && listening.row_time(row) < listening.row_time(held)
+}
+
+impl Hearing {
+    /// Nothing was read yet.
+    pub fn new(setup: RecordingSetup) -> Hearing
+        ensures { result ≡ hearing_first setup }
+    {
+        Hearing {
+            listening: Listening::new(setup),
+            held: None,
+        }
+    }
+
+    /// When the last word on a bus ends, of those that were read, if there was one.
+    fn end_read(&self, bus: Bus) -> Option<u64>
+        ensures { result ≡ end_read self.now bus }
+    {
+        match &self.held {
+            Some(held) if same_bus(bus, held.bus) => Some(word_end(held.time.nanos)),
+            _ => self.listening.end_on(bus),
+        }
+    }
+
+    /// Whether the word of a row begins before the one above it on its bus ends.
+    pub fn overlaps(&self, row: &WordRow) -> bool
+        ensures { result ≡ overlaps self.now row.now }
+    {
+        is_before_end(row.time.nanos, self.end_read(row.bus))
+    }
+
+    /// Whether it begins before the word that is held back.
+    pub fn is_early(&self, row: &WordRow) -> bool
+        ensures { result ≡ is_early self.now row.now }
+    {
+        match &self.held {
+            Some(held) => row.time.nanos < held.time.nanos,
+            None => false,
+        }
+    }
+}
