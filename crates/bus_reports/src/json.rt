@@ -85,7 +85,7 @@ struct CheckObject<'a> {
     names: Vec<TableEntry<'a>>,
     /// Null where the file was played.
     fault: Option<&'a str>,
-    /// Null where the file was not read, or its messages are refused.
+    /// Null where the file was not read.
     sha256: Option<String>,
     program: &'a str,
     toolchain: &'a str,

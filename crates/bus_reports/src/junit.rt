@@ -125,16 +125,26 @@ fn message_cases(
     Ok(text)
 }
 
-/// The test case of a file that is refused.
-fn refused_case(alloc: Global, file: &str, reason: &str) -> Result<String, AllocError> {
+/// The first line of a text.
+fn first_line(text: &str) -> &str {
+    match text.split_once('\n') {
+        Some((line, _)) => line,
+        None => text,
+    }
+}
+
+/// The test case of a file that is refused for these reasons, a line each.
+fn refused_case(alloc: Global, file: &str, reasons: &str) -> Result<String, AllocError> {
     let mut text = String::new(alloc);
     text.push_str("<testcase name=\"")?;
     push_escaped(&mut text, file)?;
     text.push_str("\" classname=\"")?;
     push_escaped(&mut text, file)?;
     text.push_str("\" time=\"0\">\n<error message=\"")?;
-    push_escaped(&mut text, reason)?;
-    text.push_str("\"/>\n</testcase>\n")?;
+    push_escaped(&mut text, first_line(reasons))?;
+    text.push_str("\">")?;
+    push_escaped(&mut text, reasons)?;
+    text.push_str("\n</error>\n</testcase>\n")?;
     Ok(text)
 }
 
@@ -146,11 +156,13 @@ impl CheckOutcome {
                 tests: judged.messages.len(),
                 failures: told_in(judged.messages.as_slice()),
                 errors: 0,
+                skipped: 0,
             },
             CheckOutcome::Refused(_) => Totals {
                 tests: 1,
                 failures: 0,
                 errors: 1,
+                skipped: 0,
             },
         }
     }
@@ -159,7 +171,7 @@ impl CheckOutcome {
     fn cases(&self, alloc: Global, file: &str) -> Result<String, AllocError> {
         match self {
             CheckOutcome::Judged(judged) => message_cases(alloc, file, judged.messages.as_slice()),
-            CheckOutcome::Refused(reason) => refused_case(alloc, file, reason.as_str()),
+            CheckOutcome::Refused(reasons) => refused_case(alloc, file, reasons.as_str()),
         }
     }
 }

@@ -23,7 +23,7 @@ pub struct CheckedProfile<'a> {
 pub enum CheckOutcome {
     /// It was played.
     Judged(Judgement),
-    /// It can't be read or is refused, for this reason: one line.
+    /// It can't be read or is refused, for these reasons: a line each, without the last line feed.
     Refused(String),
 }
 
@@ -32,7 +32,7 @@ pub enum CheckOutcome {
 pub struct CheckReport<'a> {
     /// The name of the file, as it was given.
     pub file: &'a str,
-    /// The SHA-256 digest of the file; None where it was not read, or its messages are refused.
+    /// The SHA-256 digest of the file; None where it was not read.
     pub digest: Option<[u8; 32]>,
     /// The profiles of the bus.
     pub profiles: Vec<CheckedProfile<'a>>,

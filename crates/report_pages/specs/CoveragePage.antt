@@ -23,9 +23,9 @@ AreRowsOf IsRow (x ∷ xs) rows = (row others : List ℕ) × IsRow x row × AreR
 abbrev pub words_field : ℕ → List ℕ
 words_field n = if n == 0 then codes "<td></td>" else count_field n
 
--- how often a message ended with each outcome
+-- how often a message came to each outcome
 unfoldable pub outcome_fields : OutcomeCounts → List ℕ
-outcome_fields c = count_field c.done ++ count_field c.blocked ++ count_field c.illegal ++ count_field c.in_error
+outcome_fields c = count_field c.done ++ count_field c.blocked ++ count_field c.illegal ++ count_field c.in_error ++ count_field c.superseded ++ count_field c.left_open
 
 -- the field of a name, between quotes; it is empty for none
 abbrev pub IsNamed : Option (List ℕ) → List ℕ → Type 0
@@ -93,7 +93,7 @@ names_head (Some rows) = codes "<th scope=\"col\">name</th>"
 unfoldable pub table_head : Option (List NameRow) → List ℕ → List ℕ
 table_head names others =
     codes "<table>\n<thead><tr><th scope=\"col\">message</th><th scope=\"col\">words</th>" ++ names_head names ++ others
-    ++ codes "<th scope=\"col\">done</th><th scope=\"col\">busy</th><th scope=\"col\">illegal</th><th scope=\"col\">in error</th></tr></thead>\n<tbody>\n"
+    ++ codes "<th scope=\"col\">done</th><th scope=\"col\">busy</th><th scope=\"col\">illegal</th><th scope=\"col\">in error</th><th scope=\"col\">superseded</th><th scope=\"col\">open</th></tr></thead>\n<tbody>\n"
 
 -- the table of legal messages
 abbrev pub IsLegalPart : Option (List NameRow) → List CoveredMessage → List ℕ → Type 0

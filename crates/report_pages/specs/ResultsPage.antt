@@ -1,5 +1,5 @@
 -- The page of the results of scripts: what was tested, and the table of scripts.
-use Rattle.std.specs.Prelude.{ℕ, ◌≡◌, if◌then◌else◌, List, [], ◌++◌, codes, Option, Some, None, option_map}
+use Rattle.std.specs.Prelude.{ℕ, ◌≡◌, Bool, true, false, List, [], ◌++◌, codes, Option, Some, None, option_map}
 use Rattle.std.specs.String.{string_bytes}
 use Rattle.hex.specs.Hex.{encode_lower}
 use Rattle.rt1553_report.specs.declared.head.NamesTable.{NamesTable}
@@ -10,7 +10,8 @@ use Rattle.rt1553_report.specs.declared.result.ScriptResult.{ScriptResult}
 use Rattle.report_pages.specs.CoveragePage.{AreRowsOf, IsFileRow}
 use Rattle.report_pages.specs.Fields.{count_field}
 use Rattle.rt1553_report.specs.Pieces.{AddsPiece}
-use Rattle.rt1553_report.specs.Results.{outcome_answers, outcome_passes, outcome_fails}
+use Rattle.rt1553_report.specs.Results.{outcome_answers, outcome_passes, outcome_verdict}
+use Rattle.rt1553_report.specs.Verdict.{result_word}
 use Rattle.rt1553_report.specs.Shown.{StandsFor}
 
 -- a digest in a field, on a line of its own
@@ -49,12 +50,14 @@ AreHeadRows head rows =
     × IsDateRow (option_map (λ d. d.now) head.date) date × IsNamesRow head.names names
     × (rows ≡ program ++ toolchain ++ canonical ++ date ++ names)
 
--- what came of a script
-abbrev pub verdict_field : ScriptOutcome → List ℕ
-verdict_field outcome =
-    if outcome_passes outcome then codes "<td>passes</td>"
-    else if outcome_fails outcome then codes "<td class=\"differs\">differs</td>"
-    else codes "<td class=\"differs\">not played</td>"
+-- how the field of a verdict begins: one of a script that does not pass is marked
+abbrev pub verdict_begin : Bool → List ℕ
+verdict_begin true = codes "<td>"
+verdict_begin false = codes "<td class=\"differs\">"
+
+-- what came of a script, in words
+unfoldable pub verdict_field : ScriptOutcome → List ℕ
+verdict_field outcome = verdict_begin (outcome_passes outcome) ++ result_word (outcome_verdict outcome) ++ codes "</td>"
 
 -- how many answers it states, or exchanges the test of a unit has: nothing for one that was not played
 abbrev pub answers_field : Option ℕ → List ℕ

@@ -28,14 +28,16 @@ fn push_words(page: &mut String, count: u8) -> Result<(), AllocError>
     }
 }
 
-/// Writes how often a message ended with each outcome.
+/// Writes how often a message came to each outcome.
 fn push_outcomes(page: &mut String, counts: OutcomeCounts) -> Result<(), AllocError>
     ensures { OnOk result (AddsPiece (string_bytes page.old) (string_bytes page.new) (outcome_fields counts)) }
 {
     push_count_field(page, counts.done)?;
     push_count_field(page, counts.blocked)?;
     push_count_field(page, counts.illegal)?;
-    push_count_field(page, counts.in_error)
+    push_count_field(page, counts.in_error)?;
+    push_count_field(page, counts.superseded)?;
+    push_count_field(page, counts.left_open)
 }
 
 /// Writes the field of a name.
@@ -255,7 +257,7 @@ fn push_table_head(
     push_markup(page, others)?;
     push_markup(
         page,
-        "<th scope=\"col\">done</th><th scope=\"col\">busy</th><th scope=\"col\">illegal</th><th scope=\"col\">in error</th></tr></thead>\n<tbody>\n",
+        "<th scope=\"col\">done</th><th scope=\"col\">busy</th><th scope=\"col\">illegal</th><th scope=\"col\">in error</th><th scope=\"col\">superseded</th><th scope=\"col\">open</th></tr></thead>\n<tbody>\n",
     )
 }
 
@@ -292,7 +294,7 @@ fn push_illegal_table(
 }
 
 /// What recordings show of a terminal, as a page of its own: HTML without code, and well-formed XML too. Which files were read; how
-/// many messages came; each legal message, with how often it ended with each outcome, where one that never came is marked; and each
+/// many messages came; each legal message, with how often it came to each outcome, where one that never came is marked; and each
 /// illegal one that came. With the names of messages, where there are names.
 pub fn coverage_page(
     alloc: Global,

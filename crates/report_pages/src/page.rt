@@ -2,8 +2,8 @@
 ghost use Rattle.std.specs.Prelude.{◌≡◌, ℕ, List, Some, IfOk, OnOk, map, option_map, string_bytes};
 ghost use Rattle.report_pages.specs.CoveragePage.{AreRowsOf};
 ghost use Rattle.rt1553_report.specs.Pieces.{AddsPiece};
-ghost use Rattle.rt1553_report.specs.Results.{outcome_answers, outcome_passes};
-ghost use Rattle.report_pages.specs.ResultsPage.{AreHeadRows, IsClauseLine, IsDateRow, IsDigestRow, IsNamesRow, IsProfileField, IsProfileRow, IsResultsPage, IsScriptRow, answers_field, digest_cell, digest_field, digest_line, digest_told, verdict_field};
+ghost use Rattle.rt1553_report.specs.Results.{outcome_answers, outcome_verdict};
+ghost use Rattle.report_pages.specs.ResultsPage.{AreHeadRows, IsClauseLine, IsDateRow, IsDigestRow, IsNamesRow, IsProfileField, IsProfileRow, IsResultsPage, IsScriptRow, answers_field, digest_cell, digest_field, digest_line, digest_told, verdict_begin, verdict_field};
 
 use crate::fields::{push_count_field, push_count_row, push_file_row};
 use crate::style::RESULTS_STYLE;
@@ -12,8 +12,8 @@ use message_names::quoted;
 use rt1553_draw::{MOST_STATED, push_front, push_keys};
 use rt1553_report::{
     AnswerNames, FileDigests, NamesTable, ReplyDifference, ReportHead, Scope, ScopeRow,
-    ScriptOutcome, ScriptResult, TriedScript, UnitVerdict, answer_told, clause_rows, name_at,
-    push_digest, push_markup, push_shown, totals_of,
+    ScriptOutcome, ScriptResult, Totals, TriedScript, UnitVerdict, answer_told, clause_rows,
+    name_at, push_digest, push_markup, push_shown, result_word, totals_of,
 };
 use rt1553_verify::WrongAnswer;
 use std::alloc::{AllocError, Global};
@@ -38,15 +38,15 @@ struct TestedProfile<'a> {
     digests: FileDigests,
 }
 
-/// The clauses of each script, and whether it passes.
+/// The clauses of each script, and the verdict on it.
 fn tried_of(alloc: Global, results: &[ScriptResult]) -> Result<Vec<TriedScript>, AllocError>
-    ensures { IfOk result (λ tried. map (λ t. t.passes) tried.items ≡ map (λ r. outcome_passes r.outcome) results.now) }
+    ensures { IfOk result (λ tried. map (λ t. t.verdict) tried.items ≡ map (λ r. outcome_verdict r.outcome) results.now) }
 {
     let mut tried = Vec::new(alloc);
     for of in results {
         tried.push(TriedScript {
             clauses: of.clauses.clone()?,
-            passes: of.outcome.passes(),
+            verdict: of.outcome.verdict(),
         })?;
     }
     Ok(tried)
@@ -225,13 +225,22 @@ fn answers_of(results: &[ScriptResult]) -> usize {
     all
 }
 
+/// How many files pass.
+fn passed_in(totals: Totals) -> usize {
+    totals
+        .tests
+        .saturating_sub(totals.failures)
+        .saturating_sub(totals.errors)
+        .saturating_sub(totals.skipped)
+}
+
 /// Writes how many scripts there are, and what came of them.
 fn push_sums(page: &mut String, results: &[ScriptResult]) -> Result<(), AllocError> {
     let totals = totals_of(results);
-    let failed = totals.failures.saturating_add(totals.errors);
     push_count_row(page, "files", totals.tests)?;
-    push_count_row(page, "files that pass", totals.tests.saturating_sub(failed))?;
+    push_count_row(page, "files that pass", passed_in(totals))?;
     push_count_row(page, "files that differ", totals.failures)?;
+    push_count_row(page, "files not judged", totals.skipped)?;
     push_count_row(page, "files refused or not read", totals.errors)?;
     push_count_row(page, "answers stated", answers_of(results))
 }
@@ -239,7 +248,7 @@ fn push_sums(page: &mut String, results: &[ScriptResult]) -> Result<(), AllocErr
 /// The verdict on a unit, where its results are all that was judged.
 fn verdict_in(results: &[ScriptResult]) -> Option<&str> {
     match results {
-        [one] => one.outcome.verdict(),
+        [one] => one.outcome.unit_verdict(),
         _ => None,
     }
 }
@@ -271,8 +280,8 @@ fn push_scope(alloc: Global, page: &mut String, row: ScopeRow<'_>) -> Result<(),
     };
     writeln!(
         page,
-        "</th><td class=\"{class}\">{}</td><td class=\"count\">{}</td></tr>",
-        count.passed, count.scripts
+        "</th><td class=\"{class}\">{}</td><td class=\"count\">{}</td><td class=\"count\">{}</td></tr>",
+        count.passed, count.scripts, count.not_judged
     )
 }
 
@@ -285,7 +294,7 @@ fn push_clauses(
     let tried = tried_of(alloc, results)?;
     let rows = clause_rows(alloc, tried.as_slice())?;
     page.push_str(
-        "<h2>Clause by clause</h2>\n<table>\n<thead><tr><th scope=\"col\">clause</th><th scope=\"col\">passed</th><th scope=\"col\">of</th></tr></thead>\n<tbody>\n",
+        "<h2>Clause by clause</h2>\n<table>\n<thead><tr><th scope=\"col\">clause</th><th scope=\"col\">passed</th><th scope=\"col\">of</th><th scope=\"col\">not judged</th></tr></thead>\n<tbody>\n",
     )?;
     for row in rows.as_slice() {
         push_scope(alloc, page, *row)?;
@@ -293,17 +302,24 @@ fn push_clauses(
     page.push_str("</tbody>\n</table>\n")
 }
 
+/// Writes how the field of a verdict begins. That of a script that does not pass is marked.
+fn push_verdict_begin(page: &mut String, passes: bool) -> Result<(), AllocError>
+    ensures { OnOk result (AddsPiece (string_bytes page.old) (string_bytes page.new) (verdict_begin passes)) }
+{
+    if passes {
+        push_markup(page, "<td>")
+    } else {
+        push_markup(page, "<td class=\"differs\">")
+    }
+}
+
 /// Writes what came of a script.
 fn push_verdict(page: &mut String, outcome: &ScriptOutcome) -> Result<(), AllocError>
     ensures { OnOk result (AddsPiece (string_bytes page.old) (string_bytes page.new) (verdict_field outcome.now)) }
 {
-    if outcome.passes() {
-        push_markup(page, "<td>passes</td>")
-    } else if outcome.fails() {
-        push_markup(page, "<td class=\"differs\">differs</td>")
-    } else {
-        push_markup(page, "<td class=\"differs\">not played</td>")
-    }
+    push_verdict_begin(page, outcome.passes())?;
+    push_markup(page, result_word(outcome.verdict()))?;
+    push_markup(page, "</td>")
 }
 
 /// Writes how many answers a script states; nothing for one that was not played.
@@ -591,7 +607,7 @@ fn push_unit(alloc: Global, page: &mut String, unit: &UnitVerdict) -> Result<(),
     Ok(())
 }
 
-/// Writes what came of a script that does not pass.
+/// Writes what came of a script that fails or was not played.
 fn push_result(alloc: Global, page: &mut String, of: &ScriptResult) -> Result<(), AllocError> {
     page.push_str("<h3>")?;
     push_shown(alloc, page, of.file.as_str().as_bytes())?;
@@ -622,7 +638,7 @@ fn push_result(alloc: Global, page: &mut String, of: &ScriptResult) -> Result<()
     }
 }
 
-/// Writes what does not pass, script by script.
+/// Writes what fails or was not played, script by script.
 fn push_results(
     alloc: Global,
     page: &mut String,
@@ -631,7 +647,7 @@ fn push_results(
     page.push_str("<h2>Failures</h2>\n")?;
     let mut is_clean = true;
     for of in results {
-        if !of.outcome.passes() {
+        if of.outcome.fails() || of.outcome.is_not_played() {
             if is_clean && has_drawing(results) {
                 push_keys(page)?;
             }
@@ -640,12 +656,16 @@ fn push_results(
         }
     }
     if is_clean {
-        page.push_str("<p>None: every file passes.</p>\n")?;
+        page.push_str(if totals_of(results).skipped == 0 {
+            "<p>None: every file passes.</p>\n"
+        } else {
+            "<p>None: every file passes of which something was judged.</p>\n"
+        })?;
     }
     Ok(())
 }
 
-/// Writes which scripts show nothing, or little, of a terminal, and why.
+/// Writes of which scripts nothing was judged, and which have too little to be judged where nothing differs, and why.
 fn push_warnings(
     alloc: Global,
     page: &mut String,
@@ -658,7 +678,12 @@ fn push_warnings(
             is_first = false;
             page.push_str("<p class=\"differs\">")?;
             push_shown(alloc, page, of.file.as_str().as_bytes())?;
-            writeln!(page, ": {warning}</p>")?;
+            let verdict = if of.outcome.is_unjudged() {
+                "not judged: "
+            } else {
+                ""
+            };
+            writeln!(page, ": {verdict}{warning}</p>")?;
         }
     }
     Ok(())
@@ -694,8 +719,7 @@ fn title_of(alloc: Global, results: &[ScriptResult]) -> Result<String, AllocErro
         return format!(in alloc; "Acceptance test of a unit: {verdict}");
     }
     let totals = totals_of(results);
-    let failed = totals.failures.saturating_add(totals.errors);
-    let passed = totals.tests.saturating_sub(failed);
+    let passed = passed_in(totals);
     format!(in alloc;
         "Tests of a terminal: {passed} of {} files pass",
         totals.tests
@@ -703,8 +727,8 @@ fn title_of(alloc: Global, results: &[ScriptResult]) -> Result<String, AllocErro
 }
 
 /// The results of scripts as a page of its own: HTML without code, and well-formed XML too. What was tested, with versions and digests;
-/// how many scripts pass, clause by clause; each script, with what came of it; which scripts show nothing; and of each script that does
-/// not pass each event that was not answered as stated, and its drawing.
+/// how many scripts pass, clause by clause; each script, with what came of it; of which scripts nothing was judged; and of each script
+/// that fails each event that was not answered as stated, and its drawing.
 pub fn results_page(
     alloc: Global,
     head: ReportHead<'_>,

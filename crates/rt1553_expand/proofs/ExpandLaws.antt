@@ -9,7 +9,7 @@ use Rattle.bus_script.specs.inner.Lines.{ReadsLines}
 use Rattle.rt1553_expand.specs.declared.script_for.ScriptFor.{ScriptFor}
 use Rattle.rt1553_expand.specs.Expansion.{expansion_of, refusal_at, Refusal, refusals_from}
 
-no-lines : lines_of [] ≡ []
+pub no-lines : lines_of [] ≡ []
 unfolding lines_of
 no-lines = refl
 

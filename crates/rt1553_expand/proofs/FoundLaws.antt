@@ -15,7 +15,8 @@ use Rattle.rt1553_tool.specs.Fields.{in_word, command_fields_in}
 use Rattle.rt1553_tool.specs.WordLines.{status_with}
 use Rattle.rt1553_expand.specs.declared.script_for.ScriptFor.{ScriptFor}
 use Rattle.rt1553_expand.specs.Message.{SaidMessage, words_wanted}
-use Rattle.rt1553_expand.specs.Events.{word_event, data_events, message_end, is_own, own_events, receiver_events, heard_events, message_events}
+use Rattle.rt1553_expand.specs.Own.{is_own}
+use Rattle.rt1553_expand.specs.Events.{word_event, data_events, message_end, own_events, receiver_events, heard_events, message_events}
 use Rattle.rt1553_expand.specs.Gathered.{CommandMessage, said, IsSender, IsListed}
 use Rattle.rt1553_expand.specs.inner.Found.{heard_in, fields_heard, sender_found, bits_heard, events_before, words_found, message_sent_by, message_behind, message_at}
 

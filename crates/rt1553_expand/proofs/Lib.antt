@@ -11,4 +11,6 @@ mod PieceLaws
 mod PlacingLaws
 mod ReadLaws
 mod ExpandLaws
+mod OnBusLaws
+mod OwnLaws
 mod SlotLaws

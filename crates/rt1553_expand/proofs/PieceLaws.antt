@@ -32,7 +32,7 @@ refused-meaning own line x (Err fault) other is = ap (with_named_fault line) is
 within-most : (own : ScriptFor) (line : List ℕ) → length line ≤ 256 → expansion_of own line ≡ by_meaning own line (meaning line)
 within-most own line short = grind (arith, nat_tests, short)
 
-by-letter : (own : ScriptFor) (bus : Bus) (m : CommandMessage) → message_in (message_text m) ≡ Ok (said m)
+by-letter : (own : ScriptFor) (bus : Bus) (m : CommandMessage) → message_in own (message_text m) ≡ Ok (said m)
     → by_bus_letter own (listed_line bus m) (bus_first (listed_line bus m)) ≡ Ok (Gives (message_events own bus (said m)))
 by-letter own A m read = ap (message_expansion own A) read
 by-letter own B m read = ap (message_expansion own B) read
@@ -43,7 +43,7 @@ message-says bus m is = record {
   expands = λ own.
       let says = each_is_said bus m is in (
         Gives (message_events own bus (said m)),
-        within-most own (listed_line bus m) says.short ∙ refused-meaning own (listed_line bus m) (Gives (message_events own bus (said m))) (meaning (listed_line bus m)) says.other (by-letter own bus m says.read),
+        within-most own (listed_line bus m) says.short ∙ refused-meaning own (listed_line bus m) (Gives (message_events own bus (said m))) (meaning (listed_line bus m)) says.other (by-letter own bus m (says.read own)),
         refl,
       );
 }

@@ -12,8 +12,9 @@ use Rattle.rt1553_expand.specs.declared.script_for.ScriptFor.{ScriptFor}
 use Rattle.rt1553_expand.specs.declared.expanding.ScriptSoFar.{ScriptSoFar}
 use Rattle.rt1553_expand.specs.declared.expanding.ReadLine.{ReadLine}
 use Rattle.rt1553_expand.specs.declared.expanding.ReadLine.TheVariants.{Kept, Written}
+use Rattle.rt1553_expand.specs.Own.{is_of_bus}
 use Rattle.rt1553_expand.specs.Placing.{Placing}
-use Rattle.rt1553_expand.specs.Expansion.{Expansion, Stays, Gives, events_said, events_given, lines_given, is_of_bus, expansion_of, with_expanded, spelled, expanded_events, expanded_lines}
+use Rattle.rt1553_expand.specs.Expansion.{Expansion, Stays, Gives, events_said, events_given, lines_given, expansion_of, with_expanded, spelled, expanded_events, expanded_lines}
 use Rattle.rt1553_expand.specs.inner.Wrote.{AreRead, Wrote}
 use Rattle.rt1553_expand.specs.inner.StillLeft.{StillLeft, left_of, to_come, IsPending, events_before_line, own_line, left_behind}
 use Rattle.rt1553_expand.specs.inner.Added.{Added, ReadSo}

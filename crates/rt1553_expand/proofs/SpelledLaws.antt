@@ -24,6 +24,7 @@ use Rattle.rt1553_tool.specs.WordLines.{word_line}
 use Rattle.rt1553_tool.specs.WordTexts.{short_decimal, address_text, tr_text, mode_text, transfer_text, asks_mode, command_text}
 use Rattle.rt1553_expand.specs.declared.fault.ExpandFault.{ExpandFault}
 use Rattle.rt1553_expand.specs.declared.fault.ExpandFault.TheVariants.{Sender, Comment, NotReceive}
+use Rattle.rt1553_expand.specs.declared.script_for.ScriptFor.{ScriptFor}
 use Rattle.rt1553_expand.specs.Message.{◌>>=◌, cut, SaidMessage, named_word, sender_line, another_terminal, sender_of, words_wanted, nothing_behind, data_in, data_behind, message_of, message_by_cuts, message_in}
 use Rattle.rt1553_expand.specs.Gathered.{CommandMessage, said, from_text, spaced_word, data_words_text, message_text, listed_line, IsSender, IsMessage, EachIsSaid}
 use Rattle.rt1553_expand.proofs.FeedLaws.{no_byte}
@@ -190,9 +191,10 @@ abbrev behind_colon : List ℕ → Option (List ℕ)
 behind_colon [] = None
 behind_colon (w ∷ words) = Some (flat_map spaced_word (w ∷ words))
 
-data-back : (count : ℕ) (words : List ℕ) → length words ≡ count → All (λ w. w < 2 ^ 16) words → data_behind count (behind_colon words) ≡ Ok words
-data-back count [] is small = ap (λ n. data_behind n None) (sym is)
-data-back count (w ∷ words) is small =
+data-back : (own : ScriptFor) (sender : Option CommandFields) (count : ℕ) (words : List ℕ) → length words ≡ count → All (λ w. w < 2 ^ 16) words
+    → data_behind own sender count (behind_colon words) ≡ Ok words
+data-back own sender count [] is small = ap (λ n. data_behind own sender n None) (sym is)
+data-back own sender count (w ∷ words) is small =
     ap (data_in count) (small_stays (flat_map spaced_word (w ∷ words)) (small-words (w ∷ words))) ∙ data-read count (w ∷ words) is small
 
 colon-cut : (command from : List ℕ) (words : List ℕ) → Free 58 (command ++ from) → cut (codes ":") (command ++ (from ++ data_words_text words)) ≡ record { front = command ++ from; behind = behind_colon words }
@@ -207,32 +209,32 @@ from-cut command (Some f) p = cut-from command (place_text f) p
 abbrev with_words : WordFields → Option CommandFields → List ℕ → Result SaidMessage ExpandFault
 with_words first sender words = Ok (record { first = first; sender = sender; words = words })
 
-abbrev with_sender : Option (List ℕ) → WordFields → Option CommandFields → Result SaidMessage ExpandFault
-with_sender colon first sender = data_behind (words_wanted first) colon >>= with_words first sender
+abbrev with_sender : ScriptFor → Option (List ℕ) → WordFields → Option CommandFields → Result SaidMessage ExpandFault
+with_sender own colon first sender = data_behind own sender (words_wanted first) colon >>= with_words first sender
 
-abbrev with_first : Option (List ℕ) → Option (List ℕ) → WordFields → Result SaidMessage ExpandFault
-with_first from colon first = sender_of first from >>= with_sender colon first
+abbrev with_first : ScriptFor → Option (List ℕ) → Option (List ℕ) → WordFields → Result SaidMessage ExpandFault
+with_first own from colon first = sender_of first from >>= with_sender own colon first
 
-parts-said : (m : CommandMessage) → IsMessage m → message_of (command_text m.command) (behind_from m.sender) (behind_colon m.words) ≡ Ok (said m)
-parts-said m is =
-    ap (λ r. named_word (command_text m.command) (behind_colon m.words) r >>= with_first (behind_from m.sender) (behind_colon m.words)) (command-says m.command is.command)
-    ∙ ap (λ r. r >>= with_sender (behind_colon m.words) (fields.Command m.command)) (sender-back m.command m.sender is.command is.sender)
-    ∙ ap (λ r. r >>= with_words (fields.Command m.command) m.sender) (data-back (words_wanted (fields.Command m.command)) m.words is.count is.words)
+parts-said : (own : ScriptFor) (m : CommandMessage) → IsMessage m → message_of own (command_text m.command) (behind_from m.sender) (behind_colon m.words) ≡ Ok (said m)
+parts-said own m is =
+    ap (λ r. named_word (command_text m.command) (behind_colon m.words) r >>= with_first own (behind_from m.sender) (behind_colon m.words)) (command-says m.command is.command)
+    ∙ ap (λ r. r >>= with_sender own (behind_colon m.words) (fields.Command m.command)) (sender-back m.command m.sender is.command is.sender)
+    ∙ ap (λ r. r >>= with_words (fields.Command m.command) m.sender) (data-back own m.sender (words_wanted (fields.Command m.command)) m.words is.count is.words)
 
 text-free : (m : CommandMessage) → IsMessage m → Free 35 (message_text m)
 text-free m is =
     free-append 35 (command_text m.command) _ (command-free 35 m.command hash is.command)
     (free-append 35 (from_text m.sender) (data_words_text m.words) (from-free 35 m.command m.sender hash (free 35 (codes " from ") refl) is.sender) (words-free m.words))
 
-message-read : (m : CommandMessage) → IsMessage m → message_in (message_text m) ≡ Ok (said m)
-message-read m is =
+message-read : (own : ScriptFor) (m : CommandMessage) → IsMessage m → message_in own (message_text m) ≡ Ok (said m)
+message-read own m is =
     let text : List ℕ = message_text m in
     let head : List ℕ = command_text m.command ++ from_text m.sender in
     let no_colon : Free 58 head = free-append 58 (command_text m.command) (from_text m.sender) (command-free 58 m.command colon is.command) (from-free 58 m.command m.sender colon (free 58 (codes " from ") refl) is.sender) in
-    ap (λ k. if is_some k.behind then Err Comment else message_by_cuts (cut (codes " from ") (cut (codes ":") text).front) (cut (codes ":") text)) (cut-free 35 text (text-free m is))
-    ∙ ap (λ w. message_by_cuts (cut (codes " from ") w.front) w) (colon-cut (command_text m.command) (from_text m.sender) m.words no_colon)
-    ∙ ap (λ h. message_by_cuts h (record { front = head; behind = behind_colon m.words })) (from-cut (command_text m.command) m.sender (command-free 102 m.command letter_f is.command))
-    ∙ parts-said m is
+    ap (λ k. if is_some k.behind then Err Comment else message_by_cuts own (cut (codes " from ") (cut (codes ":") text).front) (cut (codes ":") text)) (cut-free 35 text (text-free m is))
+    ∙ ap (λ w. message_by_cuts own (cut (codes " from ") w.front) w) (colon-cut (command_text m.command) (from_text m.sender) m.words no_colon)
+    ∙ ap (λ h. message_by_cuts own h (record { front = head; behind = behind_colon m.words })) (from-cut (command_text m.command) m.sender (command-free 102 m.command letter_f is.command))
+    ∙ parts-said own m is
 
 -- ---- no line of a script
 
@@ -337,5 +339,5 @@ pub each_is_said : EachIsSaid
 each_is_said bus m is = record {
   short = line-short bus m (omega (arith, is.count, wanted-few (command_bits (in_word m.command))));
   other = no-line bus (message_text m) (command-none bus m.command (from_text m.sender ++ data_words_text m.words));
-  read = message-read m is;
+  read = λ own. message-read own m is;
 }

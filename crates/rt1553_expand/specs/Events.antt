@@ -1,5 +1,5 @@
 -- The events of a message.
-use Rattle.std.specs.Prelude.{ℕ, ◌+◌, ◌==◌, Bool, false, not, ◌&&◌, ◌||◌, nat_le, if◌then◌else◌, List, [], ◌∷◌, ◌++◌, map, Option, Some, None, replicate}
+use Rattle.std.specs.Prelude.{ℕ, ◌≡◌, ◌+◌, ◌==◌, Bool, true, false, not, ◌&&◌, ◌||◌, nat_le, if◌then◌else◌, List, [], ◌∷◌, ◌++◌, map, Option, Some, None, replicate}
 use Rattle.bus_word.specs.declared.word.Bus.{Bus}
 use Rattle.bus_word.specs.Word.{valid_word}
 use Rattle.bus_word.specs.Command.{transmits, is_mode, is_broadcast, code_of, count_of}
@@ -13,6 +13,7 @@ use Rattle.rt1553_tool.specs.Fields.{sync_of, bits_with}
 use Rattle.rt1553_tool.specs.WordLines.{status_with}
 use Rattle.rt1553_expand.specs.declared.script_for.ScriptFor.{ScriptFor}
 use Rattle.rt1553_expand.specs.declared.script_for.ScriptFor.TheVariants as script_for
+use Rattle.rt1553_expand.specs.Own.{is_own, may_lack_words}
 use Rattle.rt1553_expand.specs.Message.{SaidMessage}
 
 -- the valid word of these fields comes on the bus
@@ -44,17 +45,6 @@ message_end bus (fields.Data word) = []
 abbrev pub sender_events : Bus → Option CommandFields → List Event
 sender_events bus None = []
 sender_events bus (Some f) = word_event bus (fields.Command f) ∷ event.Gap bus ∷ word_event bus (fields.Status (status_with f.address [])) ∷ []
-
--- the terminal of this address plays its own part
-abbrev pub plays : ScriptFor → ℕ → Bool
-plays (script_for.Terminal None) address = false
-plays (script_for.Terminal (Some own)) address = own == address
-plays (script_for.Bus addresses) address = some (λ a. a == address) addresses.items
-
--- the terminal that sends in a transfer plays its own part
-abbrev pub is_own : ScriptFor → Option CommandFields → Bool
-is_own own None = false
-is_own own (Some f) = plays own f.address
 
 -- the terminal of this address hears a command to the address `to`, and is not the sender
 abbrev pub hears_beside : ℕ → ℕ → ℕ → Bool
@@ -89,3 +79,8 @@ heard_events bus m = sender_events bus m.sender ++ (data_events bus m.words ++ m
 -- the events of a message, in their order, for these terminals
 abbrev pub message_events : ScriptFor → Bus → SaidMessage → List Event
 message_events own bus m = word_event bus m.first ∷ (if is_own own m.sender then own_events bus m.sender ++ receiver_events own bus m else heard_events bus m)
+
+-- where a message may lack its words, they make no difference
+abbrev pub LeftOutWordsAreNone : Type 0
+LeftOutWordsAreNone = (own : ScriptFor) (bus : Bus) (m : SaidMessage) → may_lack_words own m.sender ≡ true
+    → message_events own bus m ≡ message_events own bus (record { first = m.first; sender = m.sender; words = [] })

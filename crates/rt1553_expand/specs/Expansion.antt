@@ -1,5 +1,5 @@
 -- The script that a text of events and messages stands for.
-use Rattle.std.specs.Prelude.{ℕ, ◌+◌, ◌-◌, ◌≡◌, ◌≢◌, ◌<◌, ◌≤◌, ◌==◌, Bool, true, false, ◌&&◌, nat_lt, if◌then◌else◌, List, [], ◌∷◌, ◌++◌, length, get_or, map, drop, Option, Some, None, is_some, Result, Ok, Err}
+use Rattle.std.specs.Prelude.{ℕ, ◌+◌, ◌-◌, ◌≡◌, ◌≢◌, ◌<◌, ◌≤◌, ◌==◌, Bool, false, ◌&&◌, nat_lt, if◌then◌else◌, List, [], ◌∷◌, ◌++◌, length, get_or, map, drop, Option, Some, None, is_some, Result, Ok, Err}
 use Rattle.std.specs.List.{flat_map, sum_by}
 use Rattle.bus_word.specs.declared.word.Bus.{Bus}
 use Rattle.terminal_rules.specs.declared.event.Event.{Event}
@@ -14,7 +14,7 @@ use Rattle.rt1553_expand.specs.declared.expanding.Expanded.TheVariants.{Script, 
 use Rattle.rt1553_expand.specs.declared.expanding.UnexpandedLine.{UnexpandedLine}
 use Rattle.script_terminals.specs.BusLine.{address_first}
 use Rattle.rt1553_expand.specs.declared.script_for.ScriptFor.{ScriptFor}
-use Rattle.rt1553_expand.specs.declared.script_for.ScriptFor.TheVariants as script_for
+use Rattle.rt1553_expand.specs.Own.{is_of_bus}
 use Rattle.rt1553_expand.specs.Message.{SaidMessage, message_in}
 use Rattle.rt1553_expand.specs.Events.{message_events}
 use Rattle.rt1553_expand.specs.Placing.{ScriptLine, Placing, is_stating, nothing_placed, lines_in_order, with_message, with_statement, with_line}
@@ -44,16 +44,11 @@ abbrev pub message_expansion : ScriptFor → Bus → Result SaidMessage ExpandFa
 message_expansion own bus (Err fault) = Err fault
 message_expansion own bus (Ok message) = Ok (Gives (message_events own bus message))
 
--- lines of subsystems have the address of their terminal in front
-abbrev pub is_of_bus : ScriptFor → Bool
-is_of_bus (script_for.Terminal own) = false
-is_of_bus (script_for.Bus addresses) = true
-
 -- A message begins with the letter of a bus. A line without one is no message; on a bus, one with an address in front stays, whatever is
 -- behind it.
 abbrev pub by_bus_letter : ScriptFor → List ℕ → Option Bus → Result Expansion ExpandFault
 by_bus_letter own line None = if is_of_bus own && is_some (address_first line) then Ok (Stays line None) else Err Neither
-by_bus_letter own line (Some bus) = message_expansion own bus (message_in (drop 2 line))
+by_bus_letter own line (Some bus) = message_expansion own bus (message_in own (drop 2 line))
 
 -- the line ends in a carriage return
 abbrev pub ends_in_return : List ℕ → Bool

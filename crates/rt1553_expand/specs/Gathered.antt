@@ -15,8 +15,9 @@ use Rattle.rt1553_tool.specs.declared.fields.WordFields.TheVariants as fields
 use Rattle.rt1553_tool.specs.Fields.{in_word}
 use Rattle.rt1553_tool.specs.WordTexts.{address_text, short_decimal, command_text}
 use Rattle.rt1553_expand.specs.declared.script_for.ScriptFor.{ScriptFor}
+use Rattle.rt1553_expand.specs.Own.{is_own}
 use Rattle.rt1553_expand.specs.Message.{SaidMessage, words_wanted, message_in}
-use Rattle.rt1553_expand.specs.Events.{is_own, message_events}
+use Rattle.rt1553_expand.specs.Events.{message_events}
 use Rattle.rt1553_expand.specs.Expansion.{all_events, refusals_in}
 
 -- a message that begins with a command
@@ -69,11 +70,12 @@ pub record IsMessage (m : CommandMessage) : Type 0 where
   pub count : length m.words ≡ words_wanted (fields.Command m.command)
   pub words : All (λ word. word < 2 ^ 16) m.words
 
--- The line of a message says this message: it is short enough for one, no line of a script, and its text is read as the message.
+-- The line of a message says this message: it is short enough for one, no line of a script, and its text is read as the message, whatever
+-- terminals the script is for.
 pub record IsSaid (bus : Bus) (m : CommandMessage) : Type 0 where
   pub short : length (listed_line bus m) ≤ 256
   pub other : is_ok (meaning (listed_line bus m)) ≡ false
-  pub read : message_in (message_text m) ≡ Ok (said m)
+  pub read : (own : ScriptFor) → message_in own (message_text m) ≡ Ok (said m)
 
 -- each message has a line that says it
 abbrev pub EachIsSaid : Type 0

@@ -1,3 +1,4 @@
+pub mod Own
 pub mod Message
 pub mod Events
 pub mod Slots
@@ -5,4 +6,5 @@ pub mod Placing
 pub mod Expansion
 pub mod Sources
 pub mod Gathered
+pub mod OnBus
 pub mod inner

@@ -1,5 +1,5 @@
 -- Messages: what is written behind the letter of a bus and its space.
-use Rattle.std.specs.Prelude.{ℕ, ◌==◌, ◌||◌, if◌then◌else◌, List, [], ◌∷◌, ◌++◌, Option, Some, None, is_some, Result, Ok, Err, codes, map, replicate}
+use Rattle.std.specs.Prelude.{ℕ, ◌==◌, ◌&&◌, ◌||◌, if◌then◌else◌, List, [], ◌∷◌, ◌++◌, Option, Some, None, is_some, Result, Ok, Err, codes, map, replicate}
 use Rattle.std.specs.Char.{to_ascii_lowercase}
 use Rattle.bus_word.specs.Command.{is_receive, count_of, expected}
 use Rattle.line_format.specs.Front.{after}
@@ -14,7 +14,9 @@ use Rattle.rt1553_tool.specs.declared.word_lines.WordLineFault.TheVariants as li
 use Rattle.rt1553_tool.specs.Fields.{bits_with}
 use Rattle.rt1553_tool.specs.WordLines.{SaidWord, word_line}
 use Rattle.rt1553_expand.specs.declared.fault.ExpandFault.{ExpandFault}
-use Rattle.rt1553_expand.specs.declared.fault.ExpandFault.TheVariants.{Comment, Word, ByDigits, NotReceive, Sender, Colon, DataWord, Much}
+use Rattle.rt1553_expand.specs.declared.fault.ExpandFault.TheVariants.{Comment, Word, ByDigits, NotReceive, Sender, Colon, SenderWords, DataWord, Much}
+use Rattle.rt1553_expand.specs.declared.script_for.ScriptFor.{ScriptFor}
+use Rattle.rt1553_expand.specs.Own.{is_of_bus, may_lack_words}
 
 infixl 10 ◌>>=◌
 -- what follows, unless there is a fault
@@ -93,25 +95,30 @@ nothing_behind (Some (words, b ∷ rest)) = Err Much
 abbrev pub data_in : ℕ → List ℕ → Result (List ℕ) ExpandFault
 data_in count text = nothing_behind (fields_at (replicate count word) text)
 
--- so many data words behind a colon, whose digits have letters of either case; without a colon there are none
-abbrev pub data_behind : ℕ → Option (List ℕ) → Result (List ℕ) ExpandFault
-data_behind count None = if count == 0 then Ok [] else Err Colon
-data_behind count (Some text) = data_in count (map to_ascii_lowercase text)
+-- why data words may not be missing: in a transfer on a bus, since the terminal that sends plays no part of its own
+abbrev pub words_missing : ScriptFor → Option CommandFields → ExpandFault
+words_missing own sender = if is_of_bus own && is_some sender then SenderWords else Colon
 
--- `WORD`, `WORD: XXXX ..` and `WORD from A S: XXXX ..`, by their parts
-abbrev pub message_of : List ℕ → Option (List ℕ) → Option (List ℕ) → Result SaidMessage ExpandFault
-message_of text from colon = do
+-- So many data words behind a colon, whose digits have letters of either case. Without a colon there are none: the message asks for none,
+-- or it may lack them, by the terminal that sends.
+abbrev pub data_behind : ScriptFor → Option CommandFields → ℕ → Option (List ℕ) → Result (List ℕ) ExpandFault
+data_behind own sender count None = if (count == 0) || may_lack_words own sender then Ok [] else Err (words_missing own sender)
+data_behind own sender count (Some text) = data_in count (map to_ascii_lowercase text)
+
+-- `WORD`, `WORD: XXXX ..`, `WORD from A S: XXXX ..` and `WORD from A S`, by their parts
+abbrev pub message_of : ScriptFor → List ℕ → Option (List ℕ) → Option (List ℕ) → Result SaidMessage ExpandFault
+message_of own text from colon = do
   first ← named_word text colon (word_line text)
   sender ← sender_of first from
-  words ← data_behind (words_wanted first) colon
+  words ← data_behind own sender (words_wanted first) colon
   Ok (record { first = first; sender = sender; words = words })
 
 -- the parts of a message: the first cut is at `from`, the second at the colon
-abbrev pub message_by_cuts : Cut → Cut → Result SaidMessage ExpandFault
-message_by_cuts head whole = message_of head.front head.behind whole.behind
+abbrev pub message_by_cuts : ScriptFor → Cut → Cut → Result SaidMessage ExpandFault
+message_by_cuts own head whole = message_of own head.front head.behind whole.behind
 
--- what a message says, of which this stands behind the bus
-abbrev pub message_in : List ℕ → Result SaidMessage ExpandFault
-message_in text =
+-- what a message says in a script for these terminals, of which this stands behind the bus
+abbrev pub message_in : ScriptFor → List ℕ → Result SaidMessage ExpandFault
+message_in own text =
     if is_some (cut (codes "#") text).behind then Err Comment
-    else message_by_cuts (cut (codes " from ") (cut (codes ":") text).front) (cut (codes ":") text)
+    else message_by_cuts own (cut (codes " from ") (cut (codes ":") text).front) (cut (codes ":") text)

@@ -126,7 +126,7 @@ fn misfit_place(text: &[u8], fault: ExpandFault) -> usize
         (ExpandFault::NotReceive, ..) => word.len(),
         (ExpandFault::Sender, Some(from), _) => head.len() - from.len(),
         (ExpandFault::Colon, None, _) => fault_place(word, WordLineFault::Much),
-        (ExpandFault::Colon, ..) => text.len(),
+        (ExpandFault::Colon | ExpandFault::SenderWords, ..) => text.len(),
         (ExpandFault::DataWord | ExpandFault::Much, _, Some(data)) => {
             text.len() - data.len() + data_place(word, data)
         }

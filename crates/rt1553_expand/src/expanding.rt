@@ -5,7 +5,8 @@ ghost use Rattle.terminal_rules.specs.declared.event.Event.{Event};
 ghost use Rattle.script_lines.specs.Line.{bus_first};
 ghost use Rattle.script_lines.specs.Text.{lines_of, NoLineFeed};
 ghost use Rattle.bus_script.specs.Reading.{reading, adds, nothing};
-ghost use Rattle.rt1553_expand.specs.Expansion.{events_given, lines_given, expansion_of, expanded_lines, spelled, placing, script_in, all_events, line_count, refusal_at, refusals_in, refusal_of, ends_in_return, named_fault, is_of_bus, by_bus_letter, IsExpansion, IfScript};
+ghost use Rattle.rt1553_expand.specs.Own.{is_of_bus};
+ghost use Rattle.rt1553_expand.specs.Expansion.{events_given, lines_given, expansion_of, expanded_lines, spelled, placing, script_in, all_events, line_count, refusal_at, refusals_in, refusal_of, ends_in_return, named_fault, by_bus_letter, IsExpansion, IfScript};
 ghost use Rattle.rt1553_expand.specs.inner.StillLeft.{left_of, IsPending, own_line};
 ghost use Rattle.rt1553_expand.specs.inner.Read.{expansion_by, IsWritable};
 ghost use Rattle.rt1553_expand.specs.inner.Added.{Added};
@@ -83,7 +84,7 @@ fn read_message_line(own: &ScriptFor, line: &[u8]) -> Result<ReadLine, ExpandFau
             Err(ExpandFault::Neither)
         };
     };
-    let message = read_message(&line[2..])?;
+    let message = read_message(own, &line[2..])?;
     Ok(ReadLine::Written(bus, message))
 }
 

@@ -40,6 +40,9 @@ pub enum ExpandFault {
     /// A colon is missing before data words, or data words are missing with it.
     #[error("a colon is missing before the data words, as in A rx 5 3 1: 0001")]
     Colon,
+    /// On a bus, the data words of a transfer are missing, and the terminal that sends has no profile there.
+    #[error("a colon and data words are missing: no profile has the address of the terminal that sends")]
+    SenderWords,
     /// A data word is missing, or is none.
     #[error("a data word is wanted: one space and four hexadecimal digits")]
     DataWord,

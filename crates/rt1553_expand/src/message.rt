@@ -5,10 +5,13 @@ ghost use Rattle.arrayvec.specs.ArrayVec.{array_vec_len};
 ghost use Rattle.bus_word.specs.Command.{AreOfTheirWidth};
 ghost use Rattle.rt1553_tool.specs.Fields.{AreOfWidth, in_word};
 ghost use Rattle.rt1553_tool.specs.WordLines.{word_line};
-ghost use Rattle.rt1553_expand.specs.Message.{cut, named_word, sender_line, another_terminal, sender_of, words_wanted, data_in, data_behind, message_of, message_in};
+ghost use Rattle.rt1553_expand.specs.Message.{cut, named_word, sender_line, another_terminal, sender_of, words_wanted, data_in, words_missing, data_behind, message_of, message_in};
+ghost use Rattle.rt1553_expand.specs.Own.{may_lack_words};
 ghost use Rattle.rt1553_expand.specs.inner.Said.{said_message};
 
 use crate::fault::ExpandFault;
+use crate::script_for::ScriptFor;
+use crate::writing::is_own;
 use arrayvec::{ArrayString, ArrayVec};
 use bus_word::Command;
 use line_format::{FieldKind, after, field};
@@ -166,36 +169,60 @@ pub(crate) fn small_letters(text: &[u8]) -> ArrayVec<u8, 256>
     small
 }
 
+/// Whether a transfer may lack its data words, by the terminal that sends.
+fn may_lack_words(own: &ScriptFor, sender: Option<CommandFields>) -> bool
+    ensures { result ≡ may_lack_words own.now sender }
+{
+    own.is_of_bus() && is_own(own, sender)
+}
+
+/// Why data words may not be missing.
+fn words_missing(own: &ScriptFor, sender: Option<CommandFields>) -> ExpandFault
+    ensures { result ≡ words_missing own.now sender }
+{
+    if own.is_of_bus() && sender.is_some() {
+        ExpandFault::SenderWords
+    } else {
+        ExpandFault::Colon
+    }
+}
+
 /// Reads this many data words behind a colon; without a colon there are none.
-fn read_behind(count: u8, colon: Option<&[u8]>) -> Result<Words, ExpandFault>
+fn read_behind(
+    own: &ScriptFor,
+    sender: Option<CommandFields>,
+    count: u8,
+    colon: Option<&[u8]>,
+) -> Result<Words, ExpandFault>
     requires few { count ≤ 32 }
     requires short { IfSome colon (λ t. length t.now ≤ 256) }
-    ensures said { IfOk result (λ words. data_behind count (option_map (λ t. t.now) colon.entry) ≡ Ok words.items) }
-    ensures refused { IfErr result (λ fault. data_behind count (option_map (λ t. t.now) colon.entry) ≡ Err fault) }
+    ensures said { IfOk result (λ words. data_behind own.now sender count (option_map (λ t. t.now) colon.entry) ≡ Ok words.items) }
+    ensures refused { IfErr result (λ fault. data_behind own.now sender count (option_map (λ t. t.now) colon.entry) ≡ Err fault) }
 {
     match colon {
         Some(text) => read_data(count, small_letters(text).as_slice()),
-        None if count == 0 => Ok(Words::new()),
-        None => Err(ExpandFault::Colon),
+        None if count == 0 || may_lack_words(own, sender) => Ok(Words::new()),
+        None => Err(words_missing(own, sender)),
     }
 }
 
 /// Reads a message by its parts: up to `from` or the colon, behind `from`, and behind a colon.
 fn read_parts(
+    own: &ScriptFor,
     text: &[u8],
     from: Option<&[u8]>,
     colon: Option<&[u8]>,
 ) -> Result<BusMessage, ExpandFault>
     requires from { IfSome from (λ t. length t.now ≤ 256) }
     requires colon { IfSome colon (λ t. length t.now ≤ 256) }
-    ensures said { IfOk result (λ message. message_of text.now (option_map (λ t. t.now) from.entry) (option_map (λ t. t.now) colon.entry) ≡ Ok (said_message message)) }
-    ensures refused { IfErr result (λ fault. message_of text.now (option_map (λ t. t.now) from.entry) (option_map (λ t. t.now) colon.entry) ≡ Err fault) }
+    ensures said { IfOk result (λ message. message_of own.now text.now (option_map (λ t. t.now) from.entry) (option_map (λ t. t.now) colon.entry) ≡ Ok (said_message message)) }
+    ensures refused { IfErr result (λ fault. message_of own.now text.now (option_map (λ t. t.now) from.entry) (option_map (λ t. t.now) colon.entry) ≡ Err fault) }
     ensures width { IfOk result (λ message. AreOfWidth message.first) }
     ensures sender { IfOk result (λ message. IfSome message.sender (λ sender. AreOfTheirWidth (in_word sender))) }
 {
     let first = read_first(text, colon)?;
     let sender = read_sender(first, from)?;
-    let words = read_behind(words_wanted(first), colon)?;
+    let words = read_behind(own, sender, words_wanted(first), colon)?;
     Ok(BusMessage {
         first,
         sender,
@@ -203,11 +230,11 @@ fn read_parts(
     })
 }
 
-/// Reads a message, of which this stands behind the bus and its space.
-pub fn read_message(text: &[u8]) -> Result<BusMessage, ExpandFault>
+/// Reads a message in a script for these terminals, of which this stands behind the bus and its space.
+pub fn read_message(own: &ScriptFor, text: &[u8]) -> Result<BusMessage, ExpandFault>
     requires { length text.now ≤ 256 }
-    ensures said { IfOk result (λ message. message_in text.now ≡ Ok (said_message message)) }
-    ensures refused { IfErr result (λ fault. message_in text.now ≡ Err fault) }
+    ensures said { IfOk result (λ message. message_in own.now text.now ≡ Ok (said_message message)) }
+    ensures refused { IfErr result (λ fault. message_in own.now text.now ≡ Err fault) }
     ensures width { IfOk result (λ message. AreOfWidth message.first) }
     ensures sender { IfOk result (λ message. IfSome message.sender (λ sender. AreOfTheirWidth (in_word sender))) }
 {
@@ -216,5 +243,5 @@ pub fn read_message(text: &[u8]) -> Result<BusMessage, ExpandFault>
     }
     let (head, data) = cut(text, b":");
     let (word, from) = cut(head, b" from ");
-    read_parts(word, from, data)
+    read_parts(own, word, from, data)
 }

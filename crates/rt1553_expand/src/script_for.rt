@@ -1,8 +1,8 @@
 //! Whom a script is for.
 ghost use Rattle.std.specs.Prelude.{◌≡◌, ◌==◌};
 ghost use Rattle.terminal_rules.specs.LookBack.{some};
-ghost use Rattle.rt1553_expand.specs.Events.{plays, hears_beside, other_hears};
-ghost use Rattle.rt1553_expand.specs.Expansion.{is_of_bus};
+ghost use Rattle.rt1553_expand.specs.Own.{is_of_bus, plays};
+ghost use Rattle.rt1553_expand.specs.Events.{hears_beside, other_hears};
 
 use crate::message::ALL_TERMINALS;
 

@@ -5,7 +5,8 @@ ghost use Rattle.bus_word.specs.Command.{AreOfTheirWidth};
 ghost use Rattle.terminal_rules.specs.declared.event.Event.TheVariants.{Slot as SlotEvent};
 ghost use Rattle.rt1553_tool.specs.Fields.{AreOfWidth, in_word};
 ghost use Rattle.rt1553_tool.specs.WordLines.{status_with};
-ghost use Rattle.rt1553_expand.specs.Events.{word_event, data_events, data_words_sent, reply_words, message_end, sender_events, is_own, own_events, other_receives, receiver_events, heard_events, message_events};
+ghost use Rattle.rt1553_expand.specs.Own.{is_own};
+ghost use Rattle.rt1553_expand.specs.Events.{word_event, data_events, data_words_sent, reply_words, message_end, sender_events, own_events, other_receives, receiver_events, heard_events, message_events};
 ghost use Rattle.rt1553_expand.specs.inner.Said.{said_message};
 ghost use Rattle.rt1553_expand.specs.inner.Wrote.{Wrote};
 

@@ -1,4 +1,5 @@
 pub mod Unit
+pub mod Verdict
 pub mod Results
 pub mod Clauses
 pub mod Shown

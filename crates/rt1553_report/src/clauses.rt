@@ -1,25 +1,35 @@
 //! Which scripts pass, clause by clause.
 ghost use Rattle.std.specs.Prelude.{◌≡◌, ◌==◌, ◌&&◌, IfOk, length, filter};
 ghost use Rattle.rt1553_report.specs.Clauses.{count_all, count_unnamed, EndsWithAll};
+ghost use Rattle.rt1553_report.specs.Verdict.{verdict_passes, is_unjudged};
 
+use crate::verdict::{ScriptVerdict, is_unjudged, verdict_passes};
 use std::alloc::{AllocError, Global};
 use std::cmp::Ordering;
 use std::fmt;
 
-/// A script that was tried: the clauses that it names, and whether it passes.
+/// A script that was tried: the clauses that it names, and the verdict on it.
 #[derive(Drop)]
 pub struct TriedScript {
     /// Each once; none is empty.
     pub clauses: Vec<Vec<u8>>,
-    pub passes: bool,
+    /// None where it was not played.
+    pub verdict: Option<ScriptVerdict>,
 }
 
 impl TriedScript {
     /// Whether it names no clause and passes.
     fn passes_unnamed(&self) -> bool
-        ensures { result ≡ ((length self.now.clauses.items == 0) && self.now.passes) }
+        ensures { result ≡ ((length self.now.clauses.items == 0) && verdict_passes self.now.verdict) }
     {
-        self.clauses.is_empty() && self.passes
+        self.clauses.is_empty() && verdict_passes(self.verdict)
+    }
+
+    /// Whether it names no clause and nothing of it was judged.
+    fn is_unjudged_unnamed(&self) -> bool
+        ensures { result ≡ ((length self.now.clauses.items == 0) && is_unjudged self.now.verdict) }
+    {
+        self.clauses.is_empty() && is_unjudged(self.verdict)
     }
 }
 
@@ -34,16 +44,21 @@ pub enum Scope<'a> {
     All,
 }
 
-/// How many scripts there are, and how many of them pass.
+/// How many scripts there are, how many of them pass, and of how many nothing was judged.
 #[derive(Clone, Copy, Debug, PartialEq, Eq)]
 pub struct ScriptCount {
     pub scripts: usize,
     pub passed: usize,
+    pub not_judged: usize,
 }
 
 impl fmt::Display for ScriptCount {
     fn fmt<W: fmt::Write>(&self, f: &mut fmt::Formatter<W>) -> fmt::Result {
-        write!(f, "{} of {} scripts pass", self.passed, self.scripts)
+        write!(f, "{} of {} scripts pass", self.passed, self.scripts)?;
+        if self.not_judged > 0 {
+            write!(f, ", {} not judged", self.not_judged)?;
+        }
+        Ok(())
     }
 }
 
@@ -52,13 +67,16 @@ impl ScriptCount {
     const NONE: ScriptCount = ScriptCount {
         scripts: 0,
         passed: 0,
+        not_judged: 0,
     };
 
     /// The count with one script more.
-    fn with(self, passes: bool) -> ScriptCount {
+    fn with(self, verdict: Option<ScriptVerdict>) -> ScriptCount {
+        let (passed, not_judged) = (verdict_passes(verdict), is_unjudged(verdict));
         ScriptCount {
             scripts: self.scripts.saturating_add(1),
-            passed: self.passed.saturating_add(usize::from(passes)),
+            passed: self.passed.saturating_add(usize::from(passed)),
+            not_judged: self.not_judged.saturating_add(usize::from(not_judged)),
         }
     }
 }
@@ -72,9 +90,22 @@ pub struct ScopeRow<'a> {
 
 /// How many scripts pass.
 fn passed_in(tried: &[TriedScript]) -> usize
-    ensures { result ≡ length (filter (λ t. t.passes) tried.now) }
+    ensures { result ≡ length (filter (λ t. verdict_passes t.verdict) tried.now) }
 {
-    tried.iter().filter(|script| script.passes).count()
+    tried
+        .iter()
+        .filter(|script| verdict_passes(script.verdict))
+        .count()
+}
+
+/// Of how many scripts nothing was judged.
+fn unjudged_in(tried: &[TriedScript]) -> usize
+    ensures { result ≡ length (filter (λ t. is_unjudged t.verdict) tried.now) }
+{
+    tried
+        .iter()
+        .filter(|script| is_unjudged(script.verdict))
+        .count()
 }
 
 /// How many scripts name no clause.
@@ -89,11 +120,21 @@ fn unnamed_in(tried: &[TriedScript]) -> usize
 
 /// How many scripts name no clause and pass.
 fn unnamed_passed_in(tried: &[TriedScript]) -> usize
-    ensures { result ≡ length (filter (λ t. (length t.clauses.items == 0) && t.passes) tried.now) }
+    ensures { result ≡ length (filter (λ t. (length t.clauses.items == 0) && verdict_passes t.verdict) tried.now) }
 {
     tried
         .iter()
         .filter(|script| script.passes_unnamed())
+        .count()
+}
+
+/// How many scripts name no clause, and nothing of them was judged.
+fn unnamed_unjudged_in(tried: &[TriedScript]) -> usize
+    ensures { result ≡ length (filter (λ t. (length t.clauses.items == 0) && is_unjudged t.verdict) tried.now) }
+{
+    tried
+        .iter()
+        .filter(|script| script.is_unjudged_unnamed())
         .count()
 }
 
@@ -104,6 +145,7 @@ fn count_all(tried: &[TriedScript]) -> ScriptCount
     ScriptCount {
         scripts: tried.len(),
         passed: passed_in(tried),
+        not_judged: unjudged_in(tried),
     }
 }
 
@@ -114,6 +156,7 @@ fn count_unnamed(tried: &[TriedScript]) -> ScriptCount
     ScriptCount {
         scripts: unnamed_in(tried),
         passed: unnamed_passed_in(tried),
+        not_judged: unnamed_unjudged_in(tried),
     }
 }
 
@@ -172,11 +215,11 @@ fn clause_order(name: &[u8], other: &[u8]) -> Ordering {
     name.len().cmp(&other.len())
 }
 
-/// A clause that a script names, and whether the script passes.
+/// A clause that a script names, and the verdict on the script.
 #[derive(Clone, Copy)]
 struct NamedClause<'a> {
     clause: &'a [u8],
-    passes: bool,
+    verdict: Option<ScriptVerdict>,
 }
 
 /// Adds the clauses of a script.
@@ -187,7 +230,7 @@ fn push_clauses<'a>(
     for clause in script.clauses.as_slice() {
         all.push(NamedClause {
             clause: clause.as_slice(),
-            passes: script.passes,
+            verdict: script.verdict,
         })?;
     }
     Ok(())
@@ -214,7 +257,7 @@ fn push_rows<'a>(
 ) -> Result<(), AllocError> {
     let mut count = ScriptCount::NONE;
     for (index, named) in sorted.iter().enumerate() {
-        count = count.with(named.passes);
+        count = count.with(named.verdict);
         let is_last = match sorted.get(index + 1) {
             Some(next) => next.clause != named.clause,
             None => true,

@@ -8,6 +8,7 @@ use crate::head::{ReportHead, digest_text};
 use crate::result::{AnswerNames, ScriptOutcome, ScriptResult};
 use crate::told::answer_told;
 use crate::unit::{ReplyDifference, UnitVerdict};
+use crate::verdict::result_word;
 use ascii_json::in_ascii;
 use message_names::owned;
 use rt1553_files::escaped;
@@ -68,6 +69,8 @@ struct ResultLine<'a> {
     /// Null where the script names none.
     profile: Option<&'a str>,
     passes: bool,
+    /// The verdict in words.
+    result: &'static str,
     /// Null where the script was not played.
     answers: Option<usize>,
     /// Null where there is nothing to warn of.
@@ -222,12 +225,13 @@ fn line_of<'a>(
         file: of.file.as_str(),
         profile: of.profile.as_ref().map(|name| name.as_str()),
         passes: of.outcome.passes(),
+        result: result_word(of.outcome.verdict()),
         answers: of.outcome.answers(),
         warning: of.outcome.warning(),
         clauses: clauses_told(alloc, of.clauses.as_slice())?,
         differences: differences_of(alloc, &of.outcome)?,
         missing: missing_of(alloc, &of.outcome)?,
-        verdict: of.outcome.verdict(),
+        verdict: of.outcome.unit_verdict(),
         fault: of.outcome.fault(),
         sha256: digest_text(alloc, of.digests.script)?,
         profile_sha256: digest_text(alloc, of.digests.profile)?,

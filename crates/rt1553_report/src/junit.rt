@@ -18,9 +18,10 @@ fn totals_text(alloc: Global, totals: Totals) -> Result<String, AllocError> {
         tests,
         failures,
         errors,
+        skipped,
     } = totals;
     format!(in alloc;
-        " tests=\"{tests}\" failures=\"{failures}\" errors=\"{errors}\" skipped=\"0\" time=\"0\""
+        " tests=\"{tests}\" failures=\"{failures}\" errors=\"{errors}\" skipped=\"{skipped}\" time=\"0\""
     )
 }
 
@@ -231,6 +232,14 @@ fn push_unit(
     text.push_str("</failure>\n")
 }
 
+/// Writes why nothing of a script was judged in which nothing differs: nothing where something was.
+fn push_skipped(text: &mut String, of: &ScriptResult) -> Result<(), AllocError> {
+    match of.outcome.warning() {
+        Some(why) => writeln!(text, "<skipped message=\"{why}\"/>"),
+        None => Ok(()),
+    }
+}
+
 /// Writes what came of a script: nothing where it passes.
 fn push_outcome(alloc: Global, text: &mut String, of: &ScriptResult) -> Result<(), AllocError> {
     match &of.outcome {
@@ -247,7 +256,7 @@ fn push_outcome(alloc: Global, text: &mut String, of: &ScriptResult) -> Result<(
             ..
         } => {
             if wrong.is_empty() {
-                return Ok(());
+                return push_skipped(text, of);
             }
             write!(text, "<failure message=\"differences: {}\">", wrong.len())?;
             push_wrong(
@@ -263,11 +272,13 @@ fn push_outcome(alloc: Global, text: &mut String, of: &ScriptResult) -> Result<(
     }
 }
 
-/// Writes why what came of a script shows nothing, where it does.
+/// Writes what a script in which something differs lacks to be judged, where it lacks something.
 fn push_warning(text: &mut String, of: &ScriptResult) -> Result<(), AllocError> {
     match of.outcome.warning() {
-        Some(warning) => writeln!(text, "<system-err>warning: {warning}</system-err>"),
-        None => Ok(()),
+        Some(warning) if of.outcome.fails() => {
+            writeln!(text, "<system-err>warning: {warning}</system-err>")
+        }
+        _ => Ok(()),
     }
 }
 

@@ -8,6 +8,7 @@ mod junit;
 mod result;
 mod told;
 mod unit;
+mod verdict;
 
 pub use clauses::{Scope, ScopeRow, ScriptCount, TriedScript, clause_rows, clauses_in};
 pub use head::{FileDigests, NamesTable, ReportHead, digest_text, push_digest};
@@ -16,3 +17,4 @@ pub use junit::{junit_report, junit_suite, push_digest_property, push_property};
 pub use result::{AnswerNames, ScriptOutcome, ScriptResult, Totals, name_at, totals_of};
 pub use told::{answer_told, difference_told, push_markup, push_shown};
 pub use unit::{ReplyDifference, UnitVerdict};
+pub use verdict::{ScriptVerdict, Unjudged, is_unjudged, result_word, verdict_passes};

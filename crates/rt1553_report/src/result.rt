@@ -1,10 +1,11 @@
 //! What came of scripts that state their answers.
 ghost use Rattle.std.specs.Prelude.{◌≡◌, length, filter, option_map};
-ghost use Rattle.rt1553_report.specs.Results.{outcome_answers, outcome_fault, outcome_passes, outcome_fails, outcome_is_missing, outcome_verdict, totals_of};
+ghost use Rattle.rt1553_report.specs.Results.{outcome_answers, outcome_fault, outcome_passes, outcome_fails, outcome_is_missing, outcome_is_unjudged, outcome_unit, outcome_verdict, totals_of};
 
 use crate::head::FileDigests;
 use crate::unit::UnitVerdict;
-use rt1553_verify::{ScriptWarning, WrongAnswer};
+use crate::verdict::{ScriptVerdict, Unjudged, is_unjudged, verdict_fails, verdict_passes};
+use rt1553_verify::WrongAnswer;
 
 /// A name for each event that was not answered as stated, in their order, of its message or of its rule; None where one has none.
 #[derive(Drop)]
@@ -37,8 +38,8 @@ pub enum ScriptOutcome {
     Played {
         /// How many answers it states.
         answers: usize,
-        /// Why that shows nothing, or little, where it does.
-        warning: Option<ScriptWarning>,
+        /// Why nothing of it is judged, where nothing differs.
+        unjudged: Option<Unjudged>,
         /// Each event that was not answered as stated.
         wrong: Vec<WrongAnswer>,
         /// The name of the message of each of these events, where there are names.
@@ -55,35 +56,49 @@ pub enum ScriptOutcome {
 }
 
 impl ScriptOutcome {
-    /// Whether it was played, and each event was answered as stated; or the unit is the terminal, or can be.
+    /// The verdict: of a script that was played, or of a unit; None where it was not played.
+    pub fn verdict(&self) -> Option<ScriptVerdict>
+        ensures { result ≡ outcome_verdict self.now }
+    {
+        match self {
+            ScriptOutcome::Played {
+                wrong,
+                unjudged,
+                ..
+            } => Some(ScriptVerdict::of(wrong.is_empty(), *unjudged)),
+            ScriptOutcome::Judged(unit) => Some(ScriptVerdict::of(unit.passes(), None)),
+            ScriptOutcome::NotPlayed(_) => None,
+        }
+    }
+
+    /// Whether something was judged, and each event was answered as stated; or the unit is the terminal, or can be.
     pub fn passes(&self) -> bool
         ensures { result ≡ outcome_passes self.now }
     {
-        match self {
-            ScriptOutcome::Played { wrong, .. } => wrong.is_empty(),
-            ScriptOutcome::Judged(unit) => unit.passes(),
-            ScriptOutcome::NotPlayed(_) => false,
-        }
+        verdict_passes(self.verdict())
     }
 
     /// Whether it was played, and an event was not answered as stated; or a result of the unit differs or is missing.
     pub fn fails(&self) -> bool
         ensures { result ≡ outcome_fails self.now }
     {
-        match self {
-            ScriptOutcome::Played { wrong, .. } => !wrong.is_empty(),
-            ScriptOutcome::Judged(unit) => !unit.passes(),
-            ScriptOutcome::NotPlayed(_) => false,
-        }
+        verdict_fails(self.verdict())
     }
 
-    /// Why what came of it shows nothing, or little, in words.
+    /// Whether it was played, and nothing of it was judged.
+    pub fn is_unjudged(&self) -> bool
+        ensures { result ≡ outcome_is_unjudged self.now }
+    {
+        is_unjudged(self.verdict())
+    }
+
+    /// Why nothing of it is judged where nothing differs, in words.
     pub fn warning(&self) -> Option<&'static str> {
         match self {
             ScriptOutcome::Played {
-                warning: Some(warning),
+                unjudged: Some(why),
                 ..
-            } => Some(warning.text()),
+            } => Some(why.text()),
             _ => None,
         }
     }
@@ -110,9 +125,9 @@ impl ScriptOutcome {
         }
     }
 
-    /// The verdict on a unit, where its results were judged.
-    pub fn verdict(&self) -> Option<&str>
-        ensures { option_map (λ t. t.now) result ≡ outcome_verdict self.now }
+    /// The verdict on a unit in a line, where its results were judged.
+    pub fn unit_verdict(&self) -> Option<&str>
+        ensures { option_map (λ t. t.now) result ≡ outcome_unit self.now }
     {
         match self {
             ScriptOutcome::Judged(unit) => Some(unit.text.as_str()),
@@ -152,6 +167,8 @@ pub struct Totals {
     pub failures: usize,
     /// Those that can't be read or are refused.
     pub errors: usize,
+    /// Those of which nothing was judged.
+    pub skipped: usize,
 }
 
 /// How many scripts have an event that was not answered as stated.
@@ -180,6 +197,19 @@ fn errors_in(results: &[ScriptResult]) -> usize
     count
 }
 
+/// How many scripts were played of which nothing was judged.
+fn skipped_in(results: &[ScriptResult]) -> usize
+    ensures { result ≡ length (filter (λ r. outcome_is_unjudged r.outcome) results.now) }
+{
+    let mut count = 0;
+    for of in results {
+        if of.outcome.is_unjudged() {
+            count += 1;
+        }
+    }
+    count
+}
+
 /// Counts scripts by what came of them.
 pub fn totals_of(results: &[ScriptResult]) -> Totals
     ensures { result ≡ totals_of results.now }
@@ -188,5 +218,6 @@ pub fn totals_of(results: &[ScriptResult]) -> Totals
         tests: results.len(),
         failures: failures_in(results),
         errors: errors_in(results),
+        skipped: skipped_in(results),
     }
 }

@@ -1,5 +1,5 @@
 -- The statuses that the program ends with.
-use Rattle.std.specs.Prelude.{ℕ, ◌≡◌, ◌≤◌, Bool, true, Result, Ok, Err}
+use Rattle.std.specs.Prelude.{ℕ, ◌≡◌, ◌≤◌, ◌⊎◌, Bool, true, Result, Ok, Err}
 use Rattle.tool_files.specs.declared.fault.ToolFault.{ToolFault}
 use Rattle.tool_files.specs.declared.fault.ToolFault.TheVariants.{Output}
 use Rattle.rt1553_tool_args.specs.declared.command.ToolCommand.{ToolCommand}
@@ -7,7 +7,7 @@ use Rattle.rt1553_tool_args.specs.declared.command.ToolCommand.TheVariants as to
 use Rattle.tool_buses.specs.Troubles.{IsBusStatus}
 
 -- The statuses with which a command can end that is done: those that make a text or a drawing with 0, those that compare with 0 or 1, and
--- those that go through files with the highest of these.
+-- those that go through files with the highest of these. Where nothing is judged verify ends with 3, also for a witness.
 abbrev pub CanEnd : ToolCommand → ℕ → Type 0
 CanEnd (tool.Toml p) status = status ≡ 0
 CanEnd (tool.Export p) status = status ≡ 0
@@ -31,7 +31,7 @@ CanEnd (tool.Against asked) status = status ≤ 1
 CanEnd tool.Words status = status ≤ 1
 CanEnd (tool.Lint files format) status = status ≤ 4
 CanEnd (tool.CheckScript files) status = status ≤ 4
-CanEnd (tool.Witness asked) status = status ≤ 1
+CanEnd (tool.Witness asked) status = (status ≤ 1) ⊎ (status ≡ 3)
 CanEnd (tool.Verify asked scripts) status = status ≤ 4
 CanEnd (tool.Import table) status = status ≤ 2
 CanEnd (tool.CheckImport table p) status = status ≤ 2

@@ -42,22 +42,19 @@ fn what_events_show_as_json(rt: HostRuntime) -> Result<(), Fail> {
     };
     let text = concat!(
         "{\"came\":0,\"done\":0,\"legal\":[",
-        "{\"message\":\"mode code\",\"code\":2,\"mode\":\"transmit status word\",\"done\":0,\"busy\":0,\"illegal\":0,\"in_error\":0},",
-        "{\"message\":\"mode code\",\"code\":4,\"mode\":\"transmitter shutdown\",\"done\":0,\"busy\":0,\"illegal\":0,\"in_error\":0},",
-        "{\"message\":\"mode code\",\"code\":5,\"mode\":\"override transmitter shutdown\",\"done\":0,\"busy\":0,\"illegal\":0,\"in_error\":0},",
-        "{\"message\":\"mode code\",\"code\":8,\"mode\":\"reset remote terminal\",\"done\":0,\"busy\":0,\"illegal\":0,\"in_error\":0}],",
-        "\"illegal\":[{\"command\":\"2c22\",\"message\":\"transmit\",\"subaddress\":1,\"count\":2,\"done\":0,\"busy\":0,\"illegal\":1,\"in_error\":0}]}"
+        "{\"message\":\"mode code\",\"code\":2,\"mode\":\"transmit status word\",\"done\":0,\"busy\":0,\"illegal\":0,\"in_error\":0,\"superseded\":0,\"open\":0},",
+        "{\"message\":\"mode code\",\"code\":4,\"mode\":\"transmitter shutdown\",\"done\":0,\"busy\":0,\"illegal\":0,\"in_error\":0,\"superseded\":0,\"open\":0},",
+        "{\"message\":\"mode code\",\"code\":5,\"mode\":\"override transmitter shutdown\",\"done\":0,\"busy\":0,\"illegal\":0,\"in_error\":0,\"superseded\":0,\"open\":0},",
+        "{\"message\":\"mode code\",\"code\":8,\"mode\":\"reset remote terminal\",\"done\":0,\"busy\":0,\"illegal\":0,\"in_error\":0,\"superseded\":0,\"open\":0}],",
+        "\"illegal\":[{\"command\":\"2c22\",\"message\":\"transmit\",\"subaddress\":1,\"count\":2,\"done\":0,\"busy\":0,\"illegal\":1,\"in_error\":0,\"superseded\":0,\"open\":0}]}"
     );
     assert_eq!(rt; json.as_str(), text);
     Ok(())
 }
 
-#[test]
-fn every_outcome_of_messages(rt: HostRuntime) -> Result<(), Fail> {
-    let profile =
-        b"address = 5\nbroadcast = true\n[[rule]]\nto = \"both\"\nsubaddresses = 3\ncounts = \"1-3\"\ndirection = \"receive\"\n";
-    let normal = load(rt.alloc(), profile)?;
-    let events = [
+/// Events in which messages come to each of their ends.
+fn every_outcome() -> [Event; 31] {
+    [
         // one word, which is done
         word(Kind::Com, 0x2861),
         word(Kind::Dat, 0x1234),
@@ -92,8 +89,19 @@ fn every_outcome_of_messages(rt: HostRuntime) -> Result<(), Fail> {
         word(Kind::Com, 0xf861),
         word(Kind::Dat, 0x1234),
         Event::Gap(Bus::A),
-    ];
-    let table = coverage_of(rt.alloc(), &normal, &events)?;
+        // three words, which mode code 4 on the other bus supersedes, and that is left open
+        word(Kind::Com, 0x2863),
+        word(Kind::Dat, 0x1234),
+        Event::Word(Bus::B, Raw::of(Kind::Com, 0x2c04)),
+    ]
+}
+
+#[test]
+fn every_outcome_of_messages(rt: HostRuntime) -> Result<(), Fail> {
+    let profile =
+        b"address = 5\nbroadcast = true\n[[rule]]\nto = \"both\"\nsubaddresses = 3\ncounts = \"1-3\"\ndirection = \"receive\"\n";
+    let normal = load(rt.alloc(), profile)?;
+    let table = coverage_of(rt.alloc(), &normal, &every_outcome())?;
     let mut names = MessageNames::new(rt.alloc());
     let cells = NamedCells {
         own: true,
@@ -106,10 +114,10 @@ fn every_outcome_of_messages(rt: HostRuntime) -> Result<(), Fail> {
     names.add(String::from_str(rt.alloc(), "settings")?, cells)?;
     let text = coverage_text(rt.alloc(), &table, Some(&names))?;
     let lines = concat!(
-        "receive 3                                   1-2: 1 done, 1 busy, 1 in error; 3: never  \"settings\"\n",
+        "receive 3                                   1-3: 1 done, 1 busy, 1 in error, 1 superseded  \"settings\"\n",
         "broadcast receive 3                         1: 1 busy; 2-3: never\n",
         "mode code 2, transmit status word           2 done\n",
-        "mode code 4, transmitter shutdown           never\n",
+        "mode code 4, transmitter shutdown           1 open\n",
         "mode code 5, override transmitter shutdown  never\n",
         "mode code 8, reset remote terminal          never\n",
         "\n",
@@ -117,7 +125,7 @@ fn every_outcome_of_messages(rt: HostRuntime) -> Result<(), Fail> {
         "mode code 20 with T/R 1, selected shutdown  1 illegal\n",
         "transmit 9                                  1: 1 illegal\n",
         "\n",
-        "legal messages: 4 of 10 came, 2 done\n",
+        "legal messages: 6 of 10 came, 2 done\n",
         "illegal messages: 2 came\n"
     );
     assert_eq!(rt; text.as_str(), lines);

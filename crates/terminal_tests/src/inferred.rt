@@ -43,6 +43,22 @@ fn profile_of_a_recording(rt: HostRuntime) -> Result<(), Fail> {
     Ok(())
 }
 
+/// A gap that may have come is left out where a profile is sought.
+#[test]
+fn profile_of_a_recording_with_gaps(rt: HostRuntime) -> Result<(), Fail> {
+    let seen = b"#? B gap\nA c 2c61\nA gap\nslot\n#> A s 2800\nslot\n#> A d 1234\n".as_slice();
+    let recording = read_recording(rt.alloc(), 5, seen)?;
+    let Some(text) = infer(rt.alloc(), 5, Unseen::Illegal, recording.as_slice())? else {
+        panic!(rt; "none is proposed");
+    };
+    assert!(rt;
+        text.as_str().contains("# transmit 3, 1 word: line 2\n"),
+        "{}",
+        text.as_str()
+    );
+    Ok(())
+}
+
 /// What is not shown is legal by the other setting. Mode code 18 shows itself by its data word; by broadcast, transmitter shutdown is
 /// legal, since bus B is silent afterwards.
 #[test]

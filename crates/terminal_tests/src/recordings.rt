@@ -70,6 +70,29 @@ fn data_word_that_is_left_open(rt: HostRuntime) -> Result<(), Fail> {
     Ok(())
 }
 
+/// A transfer whose transmitter is late: whether the terminal gave up waiting shows in the next status word.
+#[test]
+fn gap_that_may_have_come(rt: HostRuntime) -> Result<(), Fail> {
+    let profile =
+        b"address = 5\n[[rule]]\ndirection = \"receive\"\nsubaddresses = \"1\"\ncounts = \"1\"\n";
+    let normal = load(rt.alloc(), profile.as_slice())?;
+    let gave_up =
+        b"A c 2821\nA c 3421\nA gap\n#? A gap\nA c 3000\nA d 0001\nA gap\nslot\nA c 2c02\nA gap\nslot\n#> A s 2c00\n".as_slice();
+    let it = watch_recording(rt.alloc(), &normal, gave_up)?;
+    assert!(rt; it.first.is_none(), "the gap came");
+    let waited =
+        b"A c 2821\nA c 3421\nA gap\n#? A gap\nA c 3000\nA d 0001\nA gap\nslot\n#> A s 2800\n".as_slice();
+    let it = watch_recording(rt.alloc(), &normal, waited)?;
+    assert!(rt; it.first.is_none(), "the gap did not come");
+    let neither =
+        b"A c 2821\nA c 3421\nA gap\n#? A gap\nA c 3000\nA d 0001\nA gap\nslot\n#> A s 2c00\n".as_slice();
+    let Some(first) = watch_recording(rt.alloc(), &normal, neither)?.first else {
+        panic!(rt; "it is explained");
+    };
+    assert_eq!(rt; first.answer.line, 8);
+    Ok(())
+}
+
 /// A status that was kept before, a pause, and then a message.
 #[test]
 fn recording_of_a_unit_that_was_on(rt: HostRuntime) -> Result<(), Fail> {
@@ -160,7 +183,7 @@ fn table_of_a_monitor(rt: HostRuntime) -> Result<(), Fail> {
     write_recording(&mut opened, &RecordingSetup::of(5), &mut sink)?;
     assert_eq!(rt;
         sink.as_slice(),
-        b"# 0\nA c 2c02\nA gap\n# 24\nslot\n#> A s 2800\nslot\nA gap\n".as_slice()
+        b"# 0\nA c 2c02\nA gap\n# 24\nslot\n#> A s 2800\nA gap\nslot\n".as_slice()
     );
     Ok(())
 }

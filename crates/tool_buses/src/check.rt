@@ -6,6 +6,7 @@ ghost use Rattle.tool_buses.specs.Troubles.{IsCheckStatus, told_status};
 use crate::messages::{FileMessage, FoundMessages, messages_in};
 use crate::names::BusNames;
 use crate::play::{refused_script, warn};
+use crate::refused::script_on_bus;
 use crate::watch::{SpokenTo, WatchedBus};
 use ascii_json::json_line;
 use bus_reports::{
@@ -22,7 +23,8 @@ use std::format;
 use std::io::Write;
 use std::rt::Files;
 use tool_files::{
-    DIFFERENT, LoadedScript, ToolFault, load_messages, shown, status_or_stop, write_bytes,
+    DIFFERENT, LoadedScript, ToolFault, digest_of, read_script_file, shown, status_or_stop,
+    write_bytes,
 };
 
 /// The bus on which messages are checked.
@@ -140,23 +142,35 @@ fn addresses_of(alloc: Global, normals: &[Normal]) -> Result<ScriptFor, AllocErr
     Ok(ScriptFor::Bus(addresses))
 }
 
+/// Judges the messages in the file of this name, which has this text.
+fn judge_text<R: AllocGlobal + Eprint>(
+    rt: &R,
+    name: &str,
+    text: &[u8],
+    on: &CheckedBus<'_>,
+    times: LoadTimes,
+) -> Result<Judgement, ToolFault> {
+    let own = addresses_of(rt.alloc(), on.normals.as_slice())?;
+    let script = script_on_bus(rt, name, text, &own)?;
+    judge_script(rt, name, &script, on, times)
+}
+
 /// Judges the messages in the file of this name.
 fn judge_file<R: Files + AllocGlobal + Eprint>(
     rt: &R,
     name: &str,
     on: &CheckedBus<'_>,
     times: LoadTimes,
-) -> Result<JudgedFile, ToolFault> {
-    let own = addresses_of(rt.alloc(), on.normals.as_slice())?;
-    match load_messages(rt, name, &own) {
-        Ok(script) => Ok(JudgedFile {
-            digest: Some(script.file_digest()),
-            judged: judge_script(rt, name, &script, on, times),
-        }),
-        Err(fault) => Ok(JudgedFile {
+) -> JudgedFile {
+    match read_script_file(rt, name) {
+        Ok(text) => JudgedFile {
+            digest: Some(digest_of(text.as_slice())),
+            judged: judge_text(rt, name, text.as_slice(), on, times),
+        },
+        Err(fault) => JudgedFile {
             digest: None,
             judged: Err(fault),
-        }),
+        },
     }
 }
 
@@ -272,7 +286,7 @@ fn times_of(asked: AskedCheck<'_>) -> LoadTimes {
 }
 
 /// Judges the messages of a file, and writes what comes of them: as text a line for each that doesn't end well at every terminal that it
-/// speaks to, or a report. As text the status is 0 where no message is told, and 1 where one is; nothing is written of a script that is
+/// speaks to, or a report. As text the status is 0 where no message is told, and 1 where one is; nothing is written of a file that is
 /// refused. A report tells also why that is so, and has its status.
 pub fn check_on_bus<'a, R: Files + AllocGlobal + Eprint, W: Write>(
     rt: &R,
@@ -284,7 +298,7 @@ pub fn check_on_bus<'a, R: Files + AllocGlobal + Eprint, W: Write>(
     ensures status { IfOk result (IsCheckStatus asked.entry.format) }
     ensures most { IfOk result (λ status. status ≤ 4) }
 {
-    let file = judge_file(rt, name, on, times_of(asked))?;
+    let file = judge_file(rt, name, on, times_of(asked));
     match asked.format {
         CheckFormat::Text => put_text(rt, name, &file.judged?, output),
         _ => put_report(rt, asked, name, on, file, output),

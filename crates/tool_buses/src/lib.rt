@@ -3,10 +3,12 @@
 #![tactic(auto)]
 
 mod check;
+mod legal;
 mod list;
 mod messages;
 mod names;
 mod play;
+mod refused;
 mod trouble;
 mod watch;
 

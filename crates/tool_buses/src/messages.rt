@@ -1,7 +1,8 @@
 //! The messages of a file, and what comes of each on a bus.
 ghost use Rattle.std.specs.Prelude.{◌<◌, length};
 
-use crate::names::has_profile;
+use crate::legal::legal_text;
+use crate::names::{has_profile, normal_at};
 use crate::trouble::{CommandTrouble, command_trouble};
 use crate::watch::{ALL_TERMINALS, SpokenTo, TakesRows};
 use bus_reports::{PutMessage, RateGroup, RateLine, rate_line};
@@ -17,6 +18,18 @@ use tool_files::{LoadedScript, ToolFault};
 /// Which of the cells of a row tells how it ended, and why.
 const ENDED_CELL: usize = 7;
 
+/// What is told of a row.
+#[derive(Drop)]
+struct ToldRow {
+    /// The address of its terminal.
+    address: u8,
+    /// How the message ended there.
+    text: String,
+    is_illegal: bool,
+    /// Something stands behind that already.
+    has_cause: bool,
+}
+
 /// What came of a command of a message.
 #[derive(Drop)]
 struct CommandResult {
@@ -25,7 +38,7 @@ struct CommandResult {
     /// It is done at a terminal.
     is_done: bool,
     /// What is told of the rows.
-    told: Vec<String>,
+    told: Vec<ToldRow>,
 }
 
 /// A message of a file, and what came of it.
@@ -126,6 +139,36 @@ fn word_for(commands: &MessageCommands, address: u8) -> Option<u16> {
     commands.named(address).map(|command| command.bits())
 }
 
+impl ToldRow {
+    /// What is legal where this command was illegal.
+    fn legal(
+        &self,
+        alloc: Global,
+        command: Command,
+        normals: &[Normal],
+    ) -> Result<Option<String>, AllocError> {
+        match normal_at(normals, self.address) {
+            Some(normal) if self.is_illegal => legal_text(alloc, normal, command),
+            _ => Ok(None),
+        }
+    }
+
+    /// How the message of this command ended; where it was illegal, with what is legal there.
+    fn reason(
+        &self,
+        alloc: Global,
+        command: Command,
+        normals: &[Normal],
+    ) -> Result<String, AllocError> {
+        let mut reason = String::from_str(alloc, self.text.as_str())?;
+        if let Some(legal) = self.legal(alloc, command, normals)? {
+            reason.push_str(if self.has_cause { ", " } else { ": " })?;
+            reason.push_str(legal.as_str())?;
+        }
+        Ok(reason)
+    }
+}
+
 impl CommandResult {
     /// Nothing came of it yet.
     fn none(alloc: Global) -> CommandResult {
@@ -141,19 +184,25 @@ impl CommandResult {
         self.seen_at.push(address)?;
         self.is_done = self.is_done || row.end == RowEnd::Done;
         if row.is_faulty() {
-            self.told.push(row_reason(alloc, address, row)?)?;
+            self.told.push(ToldRow {
+                address,
+                text: row_reason(alloc, address, row)?,
+                is_illegal: row.end == RowEnd::Illegal,
+                has_cause: row.unsent.is_some(),
+            })?;
         }
         Ok(())
     }
 
-    /// Adds why the command, to this address, doesn't end well at terminals of profiles, if it doesn't.
+    /// Adds why this command doesn't end well at terminals of profiles, if it doesn't.
     fn push_reasons(
         &self,
         alloc: Global,
-        address: u8,
+        command: Command,
         normals: &[Normal],
         reasons: &mut Vec<String>,
     ) -> Result<(), AllocError> {
+        let address = command.address();
         if let Some(trouble) = command_trouble(
             address == ALL_TERMINALS,
             has_profile(normals, address),
@@ -162,8 +211,8 @@ impl CommandResult {
         ) {
             reasons.push(command_reason(alloc, address, trouble)?)?;
         }
-        for reason in self.told.as_slice() {
-            reasons.push(String::from_str(alloc, reason.as_str())?)?;
+        for told in self.told.as_slice() {
+            reasons.push(told.reason(alloc, command, normals)?)?;
         }
         Ok(())
     }
@@ -211,17 +260,19 @@ impl FileMessage {
         Ok(())
     }
 
-    /// Why it doesn't end well at terminals of profiles; empty where it does.
+    /// Why it doesn't end well at terminals of profiles; empty where it does. What the transmitter of a transfer does comes first, since
+    /// the receiver's fault may come of it.
     pub fn reasons(&self, normals: &[Normal]) -> Result<Vec<String>, AllocError> {
         let mut reasons = Vec::new(self.alloc);
+        if let Some(word) = self.put.transmitter {
+            self.second
+                .push_reasons(self.alloc, Command::of(word), normals, &mut reasons)?;
+        }
+        let command = Command::of(self.put.command);
         self.first
-            .push_reasons(self.alloc, self.spoken_to.address, normals, &mut reasons)?;
+            .push_reasons(self.alloc, command, normals, &mut reasons)?;
         if self.spoken_to.address == ALL_TERMINALS {
             self.push_unheard(normals, &mut reasons)?;
-        }
-        if let Some(address) = self.spoken_to.transmitter {
-            self.second
-                .push_reasons(self.alloc, address, normals, &mut reasons)?;
         }
         Ok(reasons)
     }

@@ -22,9 +22,14 @@ pub struct BusNames<'a> {
     pub tables: Vec<BusTable<'a>>,
 }
 
+/// The terminal of this address.
+pub fn normal_at(normals: &[Normal], address: u8) -> Option<&Normal> {
+    normals.iter().find(|normal| normal.address() == address)
+}
+
 /// Whether a profile has this address.
 pub fn has_profile(normals: &[Normal], address: u8) -> bool {
-    normals.iter().any(|normal| normal.address() == address)
+    normal_at(normals, address).is_some()
 }
 
 impl<'a> BusNames<'a> {

@@ -186,7 +186,11 @@ fn line_at(script: &[u8], number: u64) -> &[u8] {
 }
 
 /// Why a line is refused, behind its number: the column, and the reason in words.
-fn reason_of(alloc: Global, line: &[u8], fault: BusLineFault) -> Result<String, AllocError> {
+pub(crate) fn reason_of(
+    alloc: Global,
+    line: &[u8],
+    fault: BusLineFault,
+) -> Result<String, AllocError> {
     match fault {
         BusLineFault::NoAddress => format!(in alloc;
             "1: error: a line of a subsystem begins with the address of its terminal, in two digits"

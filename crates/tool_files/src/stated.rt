@@ -43,7 +43,9 @@ pub fn stated_fault<R: AllocGlobal>(
         StatedFault::Mistyped(line, column) => {
             mistyped_answer(rt, name, script.line_in_file(line), column)
         }
-        StatedFault::Misplaced(line) | StatedFault::Impossible(line) => {
+        StatedFault::Misplaced(line)
+        | StatedFault::Impossible(line)
+        | StatedFault::EndsEarly(line) => {
             refused_line(rt, name, script.line_in_file(line), &fault)
         }
     }

@@ -3,7 +3,9 @@ ghost use Rattle.std.specs.Prelude.{◌≡◌, IfOk};
 
 use byte_streams::{FromWrite, Sink};
 use monitor_cells::{RecordingSetup, read_time};
-use monitor_tables::{LeftOutColumn, MonitorFault, open_table, write_recording};
+use monitor_tables::{
+    EarlyEnd, LeftOutColumn, MonitorFault, end_early, open_table, write_recording,
+};
 use rt1553_tool_args::AskedRecording;
 use std::io::Write;
 use std::rt::Files;
@@ -41,13 +43,16 @@ fn setup_of(asked: AskedRecording<'_>) -> Result<RecordingSetup, ToolFault> {
     })
 }
 
-/// The fault of the table in the file of this name.
-fn table_fault<R: Files + AllocGlobal>(rt: &R, name: &str, fault: MonitorFault) -> ToolFault {
-    match fault {
+/// The fault of the table in the file of this name, of which the recording ends early.
+fn table_fault<R: Files + AllocGlobal>(rt: &R, name: &str, end: EarlyEnd) -> ToolFault {
+    let refused = match end {
+        EarlyEnd::Write => return ToolFault::Output,
+        EarlyEnd::Refused(refused) => refused,
+    };
+    match refused.fault {
         MonitorFault::Memory => ToolFault::Memory,
-        MonitorFault::Write => ToolFault::Output,
         MonitorFault::Read => failed_read(rt, name),
-        _ => refused_file(rt, name, &fault),
+        _ => refused_file(rt, name, &refused),
     }
 }
 
@@ -64,7 +69,7 @@ fn warn<R: AllocGlobal + Eprint>(
     Ok(())
 }
 
-/// Writes the recording of a terminal that the table of a monitor has. What was written before a fault stands.
+/// Writes the recording of a terminal that the table of a monitor has. What was written before a fault stands, and a last line says so.
 pub fn record_table<R: Files + AllocGlobal + Eprint, W: Write>(
     rt: &R,
     asked: AskedRecording<'_>,
@@ -80,11 +85,11 @@ pub fn record_table<R: Files + AllocGlobal + Eprint, W: Write>(
             warn(rt, asked.table, table.left_out.as_slice())?;
             write_recording(&mut table, &setup, &mut sink)
         }
-        Err(fault) => Err(fault),
+        Err(refused) => Err(end_early(&mut sink, refused)),
     };
     let flushed = sink.flush();
     match (written, flushed) {
-        (Err(fault), _) => Err(table_fault(rt, asked.table, fault)),
+        (Err(end), _) => Err(table_fault(rt, asked.table, end)),
         (Ok(()), Err(_)) => Err(ToolFault::Output),
         (Ok(()), Ok(())) => Ok(0),
     }

@@ -6,8 +6,9 @@ use Rattle.script_lines.specs.Text.{NoLineFeed}
 use Rattle.bus_script.specs.inner.Lines.{ReadsLines}
 use Rattle.rt1553_expand.specs.declared.script_for.ScriptFor.{ScriptFor}
 use Rattle.rt1553_expand.specs.declared.expanding.ScriptSoFar.{ScriptSoFar}
+use Rattle.rt1553_expand.specs.Own.{is_of_bus}
 use Rattle.rt1553_expand.specs.Placing.{Placing}
-use Rattle.rt1553_expand.specs.Expansion.{is_of_bus, expansion_of, with_expanded, spelled, expanded_events, expanded_lines}
+use Rattle.rt1553_expand.specs.Expansion.{expansion_of, with_expanded, spelled, expanded_events, expanded_lines}
 use Rattle.rt1553_expand.specs.inner.StillLeft.{StillLeft, left_of, IsPending, to_come}
 
 -- the script so far, and what comes of the rest

@@ -10,8 +10,8 @@ use Rattle.rt1553_tool.specs.declared.fields.WordFields.TheVariants as fields
 use Rattle.rt1553_tool.specs.Fields.{in_word, command_fields_in}
 use Rattle.rt1553_expand.specs.declared.script_for.ScriptFor.{ScriptFor}
 use Rattle.rt1553_expand.specs.declared.finding.FoundMessage.{FoundMessage}
+use Rattle.rt1553_expand.specs.Own.{is_own}
 use Rattle.rt1553_expand.specs.Message.{words_wanted}
-use Rattle.rt1553_expand.specs.Events.{is_own}
 use Rattle.rt1553_expand.specs.Gathered.{CommandMessage}
 
 -- a valid command word on a bus

@@ -6,8 +6,9 @@ use Rattle.rt1553_tool.specs.Fields.{AreOfWidth, in_word}
 use Rattle.rt1553_expand.specs.declared.script_for.ScriptFor.{ScriptFor}
 use Rattle.rt1553_expand.specs.declared.expanding.ReadLine.{ReadLine}
 use Rattle.rt1553_expand.specs.declared.expanding.ReadLine.TheVariants.{Kept, Written}
+use Rattle.rt1553_expand.specs.Own.{is_of_bus}
 use Rattle.rt1553_expand.specs.Events.{message_events}
-use Rattle.rt1553_expand.specs.Expansion.{Expansion, Stays, Gives, is_of_bus}
+use Rattle.rt1553_expand.specs.Expansion.{Expansion, Stays, Gives}
 use Rattle.rt1553_expand.specs.inner.Said.{said_message}
 
 -- what a line that was read gives in the script

@@ -5,11 +5,13 @@ use Rattle.hex.specs.Hex.{encode_lower}
 use Rattle.rt1553_report.specs.declared.head.ReportHead.{ReportHead}
 use Rattle.rt1553_report.specs.declared.json.ResultLine.{ResultLine}
 use Rattle.rt1553_report.specs.declared.result.ScriptResult.{ScriptResult}
-use Rattle.rt1553_report.specs.Results.{outcome_passes}
+use Rattle.rt1553_report.specs.Results.{outcome_passes, outcome_verdict}
+use Rattle.rt1553_report.specs.Verdict.{result_word}
 
--- it tells whether the script passes, the digests, and what the scripts share
+-- it tells the verdict, the digests, and what the scripts share
 pub record IsLineOf (head : ReportHead) (of : ScriptResult) (line : ResultLine) : Type 0 where
   pub passes : line.passes ≡ outcome_passes of.outcome
+  pub result : line.result.now ≡ result_word (outcome_verdict of.outcome)
   pub sha256 : option_map string_bytes line.sha256 ≡ option_map encode_lower of.digests.script
   pub profile_sha256 : option_map string_bytes line.profile_sha256 ≡ option_map encode_lower of.digests.profile
   pub canonical_sha256 : option_map string_bytes line.canonical_sha256 ≡ option_map encode_lower of.digests.canonical

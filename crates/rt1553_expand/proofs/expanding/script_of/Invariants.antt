@@ -1,7 +1,8 @@
 use Rattle.std.proofs.Common.{◌≡◌, ◌++◌, ◌+◌, ◌≤◌, false, List, length}
 use Rattle.terminal_rules.specs.declared.event.Event.{Event}
 use Rattle.script_lines.specs.Text.{lines_of}
-use Rattle.rt1553_expand.specs.Expansion.{placing, is_of_bus, script_in, all_events, line_count}
+use Rattle.rt1553_expand.specs.Own.{is_of_bus}
+use Rattle.rt1553_expand.specs.Expansion.{placing, script_in, all_events, line_count}
 use Rattle.rt1553_expand.specs.inner.StillLeft.{left_of, IsPending}
 use Rattle.rt1553_expand.specs.inner.Added.{whole, ReadSo}
 use Rattle.rt1553_expand.proofs.expanding.script_of.Given as goal
