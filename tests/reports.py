@@ -80,7 +80,7 @@ class Told:
         self.status, self.told = given.status, lines_of(given.errors)
         self.warnings = [line for line in self.told if line.endswith(self.warning_ends)]
         self.faults = [line for line in self.told if not line.endswith(self.warning_ends)]
-        self.passed, self.wrong, self.clauses = {}, {name: [] for name in names}, []
+        self.passed, self.unjudged, self.wrong, self.clauses = {}, {}, {name: [] for name in names}, []
         for line in lines_of(given.output):
             self.take(line, next((name for name in sorted(names, key=len, reverse=True) if line.startswith(f"{name}:")), None))
 
@@ -89,10 +89,12 @@ class Told:
         rest = line[len(name or ""):]
         if name and (found := re.fullmatch(r": passed \(answers: (\d+)\)", rest)):
             self.passed[name] = int(found[1])
+        elif name and (found := re.fullmatch(r": not judged: (.*)", rest)):
+            self.unjudged[name] = found[1]
         elif name and (found := re.fullmatch(r":(\d+): expected (.*), came (.*)", rest)):
             self.wrong[name].append((int(found[1]), *(None if it == "nothing" else it for it in found.groups()[1:])))
-        elif found := re.fullmatch(r"(?:clause (.*)|(no clause|all)): (\d+) of (\d+) scripts pass", line):
-            self.clauses.append((found[1] or found[2], int(found[3]), int(found[4])))
+        elif found := re.fullmatch(r"(?:clause (.*)|(no clause|all)): (\d+) of (\d+) scripts pass(?:, ([1-9]\d*) not judged)?", line):
+            self.clauses.append((found[1] or found[2], int(found[3]), int(found[4]), int(found[5] or 0)))
         else:
             assert name and rest == f": differences: {len(self.wrong[name])}", line
 
@@ -113,13 +115,13 @@ def look_at_json(text, told, names, profile, shown):
     assert [it for one in found for it in misfits(one, "docs/verify.schema.json")] == []
     assert [one["file"] for one in found] == names
     for one in found:
-        assert list(one) == ["file", "profile", "passes", "answers", "warning", "clauses", "differences", "fault",
+        assert list(one) == ["file", "profile", "passes", "result", "answers", "warning", "clauses", "differences", "fault",
                              *DIGESTS, "names", "names_sha256", *VERSIONS, "date"]  # fmt: skip
         assert {it: one[it] for it in VERSIONS} == VERSIONS
         look_at_object(one, told, shown[one["file"]])
         assert profile in (None, one["profile"])
     assert [one["fault"] for one in found if one["fault"]] == told.faults
-    assert [f"{shown[one['file']]}: warning: {one['warning']}" for one in found if one["warning"]] == told.warnings
+    assert [f"{shown[one['file']]}: warning: {one['warning']}" for one in found if one["warning"] and one["result"] != "not judged"] == told.warnings
     assert sorted(summed(found)) == sorted(told.clauses)
     return found
 
@@ -147,22 +149,28 @@ def look_at_rules(found, folder):
 
 def look_at_object(one, told, name):
     assert [(it["line"], it["expected"], it["came"]) for it in one["differences"]] == told.wrong[name]
-    assert one["passes"] == (name in told.passed)
+    assert one["passes"] == (name in told.passed) == (one["result"] == "passes")
+    assert (one["result"] == "not judged") == (name in told.unjudged)
+    assert name not in told.unjudged or one["warning"] == told.unjudged[name]
+    assert (one["result"] == "differs") == bool(one["differences"])
+    assert (one["result"] == "not played") == (one["fault"] is not None)
     assert (one["fault"] is None) == (one["answers"] is not None)
-    assert one["passes"] == (one["fault"] is None and not one["differences"])
+    assert one["passes"] == (one["fault"] is None and not one["differences"] and not one["warning"])
     assert not one["passes"] or one["answers"] == told.passed[name]
 
 
 def summed(found):
-    """How many scripts pass, clause by clause, those that name none, and all."""
+    """How many scripts pass, and of how many nothing was judged, clause by clause, those that name none, and all."""
     rows = {}
     for one in found:
         for clause in one["clauses"]:
-            passed, count = rows.get(clause, (0, 0))
-            rows[clause] = passed + one["passes"], count + 1
-    none = [one["passes"] for one in found if not one["clauses"]]
-    last = [("all", sum(one["passes"] for one in found), len(found))]
-    return [(clause, *counts) for clause, counts in rows.items()] + ([("no clause", sum(none), len(none))] if none else []) + last
+            rows.setdefault(clause, []).append(one)
+    none = [one for one in found if not one["clauses"]]
+    return [counted(*it) for it in [*rows.items(), *([("no clause", none)] if none else []), ("all", found)]]
+
+
+def counted(clause, found):
+    return clause, sum(one["passes"] for one in found), len(found), sum(one["result"] == "not judged" for one in found)
 
 
 # JUnit
@@ -181,11 +189,12 @@ def look_at_junit(text, found, shown):
     assert (root.tag, [it.tag for it in root]) == ("testsuites", ["testsuite"])
     suite = root[0]
     failures, errors = (sum(bool(one[it]) for one in found) for it in ("differences", "fault"))
-    wanted = {"tests": str(len(found)), "failures": str(failures), "errors": str(errors), "skipped": "0", "time": "0"}
+    skipped = sum(one["result"] == "not judged" for one in found)
+    wanted = {"tests": str(len(found)), "failures": str(failures), "errors": str(errors), "skipped": str(skipped), "time": "0"}
     head = found[0]
     assert root.attrib == wanted
     assert suite.attrib == {"name": "rt1553-tool verify", **wanted, **({"timestamp": head["date"]} if head["date"] else {})}
-    assert [len(root.findall(f".//{it}")) for it in ("testcase", "failure", "error")] == [len(found), failures, errors]
+    assert [len(root.findall(f".//{it}")) for it in ("testcase", "failure", "error", "skipped")] == [len(found), failures, errors, skipped]
     assert [it.tag for it in suite] == ["properties"] + ["testcase"] * len(found)
     table = [("names", shown[head["names"]]), ("names_sha256", head["names_sha256"])] if head["names"] else []
     assert properties_of(suite) == [*VERSIONS.items(), *table]
@@ -203,14 +212,16 @@ def look_at_case(case, one, name, profile):
     assert case.attrib == {"name": name, "classname": profile, **answers, "time": "0"}
     properties = [(it, one[it]) for it in DIGESTS if one[it]] + [("clause", it) for it in one["clauses"]]
     assert properties_of(case) == properties
-    kinds = {"properties": properties, "failure": one["differences"], "error": one["fault"], "system-err": one["warning"]}
+    skipped, warned = (one["warning"] if (one["result"] == "not judged") == it else None for it in (True, False))
+    kinds = {"properties": properties, "failure": one["differences"], "error": one["fault"], "skipped": skipped, "system-err": warned}
     assert [it.tag for it in case] == [tag for tag, it in kinds.items() if it]
     if one["differences"]:
         failure = case.find("failure")
         assert failure.get("message") == f"differences: {len(one['differences'])}"
         assert failure.text == "".join(f"{name}:{it['line']}: {in_words(it)}\n" for it in one["differences"])
     assert not one["fault"] or case.find("error").attrib == {"message": one["fault"]}
-    assert not one["warning"] or words_of(case.find("system-err")) == f"warning: {one['warning']}"
+    assert not skipped or case.find("skipped").attrib == {"message": skipped}
+    assert not warned or words_of(case.find("system-err")) == f"warning: {warned}"
 
 
 # HTML
@@ -284,9 +295,8 @@ def head_rows(found, shown):
 
 
 def script_row(one, shown):
-    result = "passes" if one["passes"] else "differs" if one["differences"] else "not played"
     profile, answers = shown[one["profile"] or ""], "" if one["answers"] is None else str(one["answers"])
-    return [shown[one["file"]], profile, result, answers, "".join(one["clauses"]), one["sha256"] or ""]
+    return [shown[one["file"]], profile, one["result"], answers, "".join(one["clauses"]), one["sha256"] or ""]
 
 
 def fields_of(one, has_rules):
@@ -304,16 +314,17 @@ def look_at_page(text, found, clauses, shown):
         "files": len(found),
         "files that pass": passed,
         "files that differ": sum(bool(one["differences"]) for one in found),
+        "files not judged": sum(one["result"] == "not judged" for one in found),
         "files refused or not read": sum(bool(one["fault"]) for one in found),
         "answers stated": sum(one["answers"] or 0 for one in found),
     }
     assert rows_in(tables[0]) == [*head_rows(found, shown), *([what, str(count)] for what, count in counts.items())]
-    assert rows_in(tables[1]) == [["clause", "passed", "of"], *([clause, str(a), str(b)] for clause, a, b in clauses)]
+    assert rows_in(tables[1]) == [["clause", "passed", "of", "not judged"], *([clause, *map(str, counts)] for clause, *counts in clauses)]
     assert rows_in(tables[2]) == [["file", "profile", "result", "answers", "clauses", "SHA-256"], *(script_row(one, shown) for one in found)]
-    warned = [f"{shown[one['file']]}: {one['warning']}" for one in found if one["warning"]]
+    warned = [f"{shown[one['file']]}: {'not judged: ' * (one['result'] == 'not judged')}{one['warning']}" for one in found if one["warning"]]
     assert [it for it in texts_of(body, "p") if it in warned] == warned
     assert ("Warnings" in texts_of(body, "h2")) == bool(warned)
-    others = [one for one in found if not one["passes"]]
+    others = [one for one in found if one["result"] in ("differs", "not played")]
     assert texts_of(body, "h3") == [shown[one["file"]] for one in others]
     wrong = [one["differences"] for one in others if one["differences"]]
     fields = [[fields_of(it, any(other["rule"] for other in differences)) for it in differences] for differences in wrong]
@@ -334,7 +345,7 @@ def drawn_lines(page, name):
 
 # what recordings show
 
-OUTCOMES = ["done", "busy", "illegal", "in_error"]
+OUTCOMES = ["done", "busy", "illegal", "in_error", "superseded", "open"]
 
 
 def message_in_words(one):
@@ -358,7 +369,7 @@ def look_at_coverage(text, found, profile, recordings, has_names, shown):
         return [message_in_words(one), str(one.get("count", "")), *name, *[came(one)] * is_legal, *(str(one[it]) for it in OUTCOMES)]
 
     def table(rows, is_legal):
-        head = ["message", "words", *["name"] * has_names, *["came"] * is_legal, "done", "busy", "illegal", "in error"]
+        head = ["message", "words", *["name"] * has_names, *["came"] * is_legal, "done", "busy", "illegal", "in error", "superseded", "open"]
         return [head, *(fields(one, is_legal) for one in rows)]
 
     tables = body.findall(f"{HTML}table")

@@ -10,6 +10,7 @@ import re
 from typing import NamedTuple
 
 import buses
+import exchanges
 import message_rows
 import play
 import pytest
@@ -67,7 +68,7 @@ CHECKED = {
     "in error: wrong word count": 20, "in error: no status from the transmitter": 1,
     "takes it for no message": 20, "ignored: during a reply": 1, "commands of two lines in a message": 10,
     "loads to 100 %": 10, "loads over 100 %": 20, "rated: data": 40, "rated: data to all": 5, "rated: mode code": 20, "rated: mode code to all": 4,
-    "rated: transfer": 20, "rated: transfer to all": 4,
+    "rated: transfer": 20, "rated: transfer to all": 4, "legal for some words": 10, "not legal": 30, "transfers without words": 20,
 }  # fmt: skip
 
 
@@ -215,26 +216,39 @@ def rows_of(setups, numbered, counts):
     return rows, warnings
 
 
-def result_of(rows, number, command):
+def legal_there(setup, command):
+    """What is legal where a command is illegal, docs/bus.md."""
+    counts = [it for it in range(1, 33) if (cell := rules.cell_of(command & ~31 | it % 32)) and setup.legal(cell)]
+    place = f"{'broadcast ' * rules.is_broadcast(command)}{['receive', 'transmit'][rules.is_transmit(command)]} {rules.subaddress_of(command)}"
+    if not counts:
+        return f"{place} is not legal"
+    ranges = ",".join(f"{low}-{high}" if low < high else f"{low}" for low, high in exchanges.ranges_of(counts))
+    return f"{place} is legal for {ranges} word{'s' * (counts != [1])}"
+
+
+def result_of(setup, rows, number, command):
     """How a terminal ended the message of a line that has this command for it, or None where it did so well."""
     ends = [(it["ended"], it["why"]) for it, commands in rows if (number, command) in commands and it["ended"] != "other"]
     if not ends:
         return "takes it for no message"
     (ended, why), = ends
-    return None if (ended, why) == ("done", None) else ended + (f": {why}" if why else "")
+    there = legal_there(setup, command) if ended == "illegal" and not rules.is_mode(command) else None
+    causes = ", ".join(it for it in (why, there) if it)
+    return None if (ended, why) == ("done", None) else ended + (f": {causes}" if causes else "")
 
 
 def reasons_of(message, number, setups, rows):
     """Why a message does not end well, docs/bus.md."""
-    reasons = []
-    for command in message.commands:
+    reasons, at = [], {it.address: it for it in setups}
+    # the transmitter of a transfer is first
+    for command in reversed(message.commands):
         if command >> 11 == 31:
             # the transmitter of the transfer is no receiver of it
             hearers = [it.address for it in setups if it.broadcast and it.address not in [other >> 11 for other in message.commands]]
-            results = {it: result_of(rows[it], number, command) for it in sorted(hearers)}
+            results = {it: result_of(at[it], rows[it], number, command) for it in sorted(hearers)}
             reasons += ["no terminal takes the broadcast"] * (None not in results.values())
         elif command >> 11 in rows:
-            results = {command >> 11: result_of(rows[command >> 11], number, command)}
+            results = {command >> 11: result_of(at[command >> 11], rows[command >> 11], number, command)}
         else:
             results = {}
             reasons.append(f"no profile has address {command >> 11:02}")
@@ -321,7 +335,10 @@ def judged(schedule, setups, counts, times):
         else:
             told += [f"schedule:{number}: {it} # {mark}" for it, mark in ((alone, "alone"), (in_run, "in the run")) if it]
             counts["both, and not the same" if alone and in_run else "alone" if alone else "in the run"] += 1
-        counts.update(re.sub(r"^terminal \d\d: | \d\d$", "", it) for it in {*alone.split("; "), *in_run.split("; ")} if it)
+        for it in {*alone.split("; "), *in_run.split("; ")} - {""}:
+            counts["legal for some words"] += " is legal for " in it
+            counts["not legal"] += it.endswith(" is not legal")
+            counts[re.sub(r"^terminal \d\d: | \d\d$|[:,] [a-z ]+ \d+ is (not )?legal.*", "", it)] += 1
     counts["all end well"] += not wrong
     told += load_told(schedule, *times, counts)
     told.append(counted(messages) + (f", {wrong} of them do{'es' * (wrong == 1)}n't end well" if wrong else ": all end well"))
@@ -334,15 +351,23 @@ def counted(messages):
 
 
 def loosened(output):
-    """What is told, with the reasons of a line sorted: the page gives no order."""
+    """What is told, with the reasons of a line sorted: the page gives no order of those of several terminals."""
     lines = [re.split("( # .*)", line) for line in output.decode().splitlines()]
     return [(sorted(line.split(": ", 1)[-1].split("; ")), line.split(": ", 1)[0], *mark) for line, *mark in lines]
+
+
+def written(draw, message, setups, counts):
+    """The line of a message: in a transfer from a terminal of these, without its words in some."""
+    if len(message.commands) == 1 or message.commands[1] >> 11 not in [it.address for it in setups] or draw.random() < 0.5:
+        return message.line
+    counts["transfers without words"] += 1
+    return message.line.split(":")[0]
 
 
 @pytest.mark.parametrize("seed", range(CHECK_SEEDS))
 def test_check(tool, seed, tmp_path, count_runs):
     """`bus --check` of random schedules: what is told of each message, the load, the last line, the status and the warnings."""
-    draw, rates, counts = random.Random(seed), random.Random(f"rates {seed}"), collections.Counter()
+    draw, rates, words, counts = random.Random(seed), random.Random(f"rates {seed}"), random.Random(f"words {seed}"), collections.Counter()
     profiles = buses.profiles_of(draw)
     write_files(tmp_path, {name: text for name, (text, _) in profiles.items()})
     for number in range(SCHEDULES):
@@ -350,13 +375,13 @@ def test_check(tool, seed, tmp_path, count_runs):
         setups = [profiles[it][1] for it in names]
         schedule = Schedule(draw, [it.address for it in setups])
         parts, times = rated(rates, schedule.lines), rates.choice([(12, 4), (12, 4), (rates.randint(0, 1000), rates.randint(0, 1000))])
-        lines = [it.line if isinstance(it, Message) else it for it in parts]
+        lines = [written(words, it, setups, counts) if isinstance(it, Message) else it for it in parts]
         write_files(tmp_path, {"schedule": "".join(f"{it}\n" for it in lines)})
         options = [] if times == (12, 4) else ["--response", f"{times[0]}", "--gap", f"{times[1]}"]
         given = run(tool, "bus", "--check", *options, *names, "schedule", folder=tmp_path)
         wanted = judged(parts, setups, counts, times)
         assert given._replace(output=loosened(given.output)) == wanted._replace(output=loosened(wanted.output)), (number, names, lines)
-        # in the order of the commands, then of the addresses, where nothing strange is
+        # in the order of the commands, that of a transmitter first, then of the addresses, where nothing strange is
         assert given == wanted or schedule.strange, (number, names, lines)
     assert {name: counts[name] for name, least in CHECKED.items() if counts[name] < least} == {}
     count_runs(SCHEDULES)

@@ -94,8 +94,8 @@ IN_A_LINE = [it for it in HOSTILE if it != "\n"]
 CLAUSE = {"clause": "# Plan: \r~[2Kall: 9 of 9 scripts pass\nA gap\n"}
 STATED = {"stated": "A c 2c02\nA gap\nslot\n#> A s ~\n#+ ~x\n"}
 SCRIPTS = [
-    *rows_of("a clause", CLAUSE, ("verify --summary five clause", 1, 0), ("verify --format json five clause", 1, 0),
-             ("verify --format junit five clause", 1, 0), ("verify --format html five clause", 1, 0), characters=IN_A_LINE),
+    *rows_of("a clause", CLAUSE, ("verify --summary five clause", 0, 3), ("verify --format json five clause", 0, 3),
+             ("verify --format junit five clause", 0, 3), ("verify --format html five clause", 0, 3), characters=IN_A_LINE),
     *rows_of("an answer", STATED, ("verify five stated", 1, 2), ("verify --format json five stated", 1, 2),
              ("verify --format junit five stated", 1, 2), ("verify --format html five stated", 1, 2), characters=IN_A_LINE),
     *rows_of("a profile", {"names": "# Profile: no~ne\nA gap\n"}, ("verify --profiles . names", 1, 4), characters=IN_A_LINE),

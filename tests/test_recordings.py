@@ -19,6 +19,7 @@ import rules
 from decided import AnySubsystem, explained, explained_later, fresh_part
 from programs import Given, run, write_files
 
+pytestmark = pytest.mark.slow
 PROFILES = range(16)
 RUNS, LATER_RUNS, SOME_RUNS, MESSAGES = 20_000, 5_000, 1_600, 8
 UNSEEN = ("write", "vector", "bit", "flag")
@@ -177,11 +178,18 @@ def told_of(text, end=":"):
     return told
 
 
-def check_told(explains, recording, name, numbers, told):
+def unjudged(recording):
+    """Why nothing of a recording is judged that is explained; None where something is."""
+    if any(sent for _, sent in recording):
+        return None
+    return "the script states no answer" if recording else "the script has no event"
+
+
+def check_told(explains, recording, name, numbers, told, why):
     """This is what is to be told of a recording, of which so many sightings are explained as `explains` says."""
     count = explains(recording)
     if count == len(recording):
-        assert told == []
+        assert told == ([f"{name}: not judged: {why}"] if why else [])
         return
     event, sent = recording[count]
     found = re.fullmatch("(.*), came (.*)", told[0]) if told else None
@@ -201,7 +209,7 @@ def check_judged(build, folder, setup, recordings):
     told, warnings = verified(build.tool, folder, map(str, range(len(recordings))))
     assert warnings == {}
     for n, recording in enumerate(recordings):
-        check_told(functools.partial(explained, setup), recording, str(n), script_of(recording)[1], told.get(str(n), []))
+        check_told(functools.partial(explained, setup), recording, str(n), script_of(recording)[1], told.get(str(n), []), unjudged(recording))
 
 
 def check_explained(build, folder, setup, recordings):
@@ -216,10 +224,10 @@ def check_judged_later(build, folder, setup, recordings):
     for n, recording in enumerate(recordings):
         begin, lines, name = fresh_part(setup, recording), script_of(recording)[1], str(n)
         if begin is None:
-            assert (told.get(name), parts[name]) == (None, [f"{name}: warning: nothing is judged: no part begins afresh after a pause"])
+            assert (told[name], parts.get(name)) == ([f"{name}: not judged: no part begins afresh after a pause"], None)
         else:
             assert parts[name] == [f"{name}: judged after line {lines[begin - 1]}"]
-            check_told(functools.partial(explained_later, setup), recording[begin:], name, lines[begin:], told.get(name, []))
+            check_told(functools.partial(explained_later, setup), recording[begin:], name, lines[begin:], told.get(name, []), unjudged(recording))
 
 
 # ---- scripts that explain them
@@ -249,17 +257,20 @@ def check_played(build, folder, _, recordings):
     """The script that explains each of these recordings has its events, and the program plays it to the recorded words."""
     for n, recording in enumerate(recordings):
         status, events, words = witness_of(build, folder, str(n))
+        if unjudged(recording):
+            assert status == 3, n
+            continue
         assert (status, events) == (0, lines_of(recording)), n
         check_words(words, recording)
 
 
 def check_inferred(build, folder, setup, recordings):
     """For each of these recordings a profile is proposed, which explains it."""
-    for n in range(len(recordings)):
+    for n, recording in enumerate(recordings):
         made = run(build.tool, "infer", str(n), "--address", str(setup.address), folder=folder)
         write_files(folder, {f"{n}.toml": made.output})
         ran = run(build.tool, "verify", "--any-subsystem", f"{n}.toml", str(n), folder=folder)
-        assert (made.status, ran.status) == (0, 0), n
+        assert (made.status, ran.status) == (0, 3 if unjudged(recording) else 0), n
 
 
 def check_played_later(build, folder, setup, recordings):
@@ -270,12 +281,15 @@ def check_played_later(build, folder, setup, recordings):
 
 def check_one_played_later(build, folder, setup, recording, name):
     """The script that explains a recording which began later shuts transmitters down and then has the events of the part that is judged,
-    and the program plays it to the words of the part; or it isn't explained, and the status says so."""
+    and the program plays it to the words of the part; or it isn't explained, or nothing is judged, and the status says so."""
     begin = fresh_part(setup, recording)
     part = recording[len(recording) if begin is None else begin :]
     status, events, words = witness_of(build, folder, name, "--already-on")
     if explained_later(setup, part) != len(part):
         assert status == 1, name
+        return
+    if begin is None or unjudged(recording):
+        assert status == 3, name
         return
     # in subaddress 0, transmitter shutdown on the other bus
     shut = [line for bus in "AB" for line in (f"{bus} c {setup.address << 11 | 0x404:04x}", f"{bus} gap", "slot")]

@@ -62,6 +62,7 @@ VERIFIED = [
     Verified("small scripts", ["five"], ["good", "wrong", "broken", "none"], SMALL),
     Verified("nothing differs", ["five"], ["good"], SMALL),
     Verified("scripts that show nothing", ["five"], ["empty", "unstated", "good"], SMALL),
+    Verified("a script of which nothing is judged, and others", ["five"], ["unstated", "wrong", "broken"], SMALL),
     Verified("a script that is refused alone", ["five"], ["broken"], SMALL),
     Verified("each script names its profile", ["--profiles", "."], ["one", "two", "bare", "away", "gone", "none", "one"], FOLDER),
     *(Verified(f"{name[4:]} events", ["five"], [name], {**FIVE, name: text}) for name, text in LONG.items()),
@@ -139,12 +140,12 @@ ROWS = with_files(
 # a report to the byte: of the scripts `good`, `wrong` and `none`, with digests of `five`, of its canonical text, and of the scripts
 
 JSON = """\
-{{"file":"good","profile":"five","passes":true,"answers":1,"warning":null,"clauses":["5.2.1","5.2.1.1"],"differences":[],"fault":null,\
+{{"file":"good","profile":"five","passes":true,"result":"passes","answers":1,"warning":null,"clauses":["5.2.1","5.2.1.1"],"differences":[],"fault":null,\
 "sha256":"{good}",{rest}
-{{"file":"wrong","profile":"five","passes":false,"answers":3,"warning":null,"clauses":["5.2.1"],"differences":[\
+{{"file":"wrong","profile":"five","passes":false,"result":"differs","answers":3,"warning":null,"clauses":["5.2.1"],"differences":[\
 {{"line":4,"rule":"Plan: 5.2.1","expected":"A s 2c00","came":"A s 2800"}},{{"line":6,"rule":"Plan: 5.2.1","expected":"A d 0000","came":null}},\
 {{"line":15,"rule":"Plan: 5.2.1","expected":null,"came":"A s 2800"}}],"fault":null,"sha256":"{wrong}",{rest}
-{{"file":"none","profile":"five","passes":false,"answers":null,"warning":null,"clauses":[],"differences":[],\
+{{"file":"none","profile":"five","passes":false,"result":"not played","answers":null,"warning":null,"clauses":[],"differences":[],\
 "fault":"file: cannot read none: no such file","sha256":null,{rest}
 """
 REST = """\

@@ -120,6 +120,18 @@ ROWS = with_files(
              "A rx 7 1 1 from 5 2: 0000", "A rx 6 1 1: 1111"),
     Row("messages: a transfer to all", "bus --expand five hearer script", 0, "05 A s 2800\n05 A d 5201\n06 hand receive broadcast 01 5201\n", "",
         files={"hearer": HEARER, "script": "05 write 02 01 5201\nA rx all 1 1 from 5 2: 0000\n"}),
+    expanded("messages: transfers without words", TRANSCRIPT + "05 A s 2800\n05 A d 5201\n", "",
+             "05 write 02 01 5201", "A rx 6 1 1 from 5 2", "A rx 9 1 1 from 5 2"),
+    Row("messages: a transfer to all without words", "bus --expand five hearer script", 0, "05 A s 2800\n05 A d 5201\n06 hand receive broadcast 01 5201\n", "",
+        files={"hearer": HEARER, "script": "05 write 02 01 5201\nA rx all 1 1 from 5 2\n"}),
+    expanded("messages: a transfer without words, and without the transmitter", "",
+             "script:2:20: error: a colon and data words are missing: no profile has the address of the terminal that sends\n",
+             "A rx 6 1 1 from 5 2", "A rx 6 1 1 from 9 1", status=2),
+    *(expanded(f"messages: no transfer, and no words: {line}", "", f"script:1:{column}: error: {told}\n", line, status=2) for line, column, told in [
+        ("A rx 6 1 1", 11, "a colon is missing before the data words, as in A rx 5 3 1: 0001"),
+        ("A rx 6 1 1 from 5 2:", 21, "a data word is wanted: one space and four hexadecimal digits"),
+        ("A rx 6 1 2 from 5 2: 0001", 26, "a data word is wanted: one space and four hexadecimal digits"),
+    ]),
     expanded("messages: a transfer from a terminal that is not there", "06 hand receive own 01 1234\n06 A s 3000\n", "", "A rx 6 1 1 from 9 1: 1234"),
     expanded("messages: to a terminal that is not there", "06 A s 3000\n06 A d 0000\n", "", "A rx 9 1 1: 1234", "A tx 9 1 2", "A tx 6 2 1"),
     expanded("messages: lines of subsystems", "05 B s 2808\n06 B s 3000\n06 B d 0000\n", "", "05 flag busy 1", "B tx 5 2 1", "B tx 6 2 1"),
@@ -157,20 +169,31 @@ ROWS = with_files(
         files={"script": "B c 2c41\nB gap\nB c 3441\nB gap\nslot\n"}),
     checked("all end well", ["3 messages: all end well"], "# to 5", "A rx 5 1 1: 0001", "A rx 6 1 1 from 5 2: 0000", "B tx 6 2 1", status=0),
     checked("no message", ["0 messages: all end well"], "A c 2c41", "A gap", "slot", "A status 5", "A data 0001", status=0),
-    checked("the name of no profile", ["1: no profile has address 09", "2: no profile has address 12; no profile has address 13",
+    checked("the name of no profile", ["1: no profile has address 09", "2: no profile has address 13; no profile has address 12",
                                        "2 messages, 2 of them don't end well"], "A rx 9 1 1: 0001", "A rx 12 1 1 from 13 1: 0001"),
-    checked("illegal", ["1: terminal 05: illegal", "2: terminal 06: in error: wrong word count; terminal 05: illegal", "3: terminal 05: illegal",
-                        "4 messages, 3 of them don't end well"], "A tx 5 3 1", "A rx 6 1 1 from 5 3: 0000", "B mode 5 19", "B tx 6 2 1"),
+    checked("illegal", ["1: terminal 05: illegal: transmit 3 is not legal", "2: terminal 05: illegal: transmit 3 is not legal; terminal 06: in error: wrong word count",
+                        "3: terminal 05: illegal", "4 messages, 3 of them don't end well"], "A tx 5 3 1", "A rx 6 1 1 from 5 3", "B mode 5 19", "B tx 6 2 1"),
+    checked("illegal: the transmitter's words come first, and then the receiver's", [
+        "1: terminal 05: illegal: transmit 2 is legal for 1 word; terminal 06: in error: wrong word count", "2: terminal 06: illegal: receive 2 is not legal",
+        "3: terminal 06: illegal: receive 1 is legal for 1 word", "5: terminal 05: busy; terminal 06: in error: wrong word count # in the run",
+        "4 messages, 4 of them don't end well"], "A rx 6 1 2 from 5 2", "A rx 6 2 1 from 5 2", "A rx 6 1 2: 0001 0002", "05 flag busy 1", "A rx 6 1 1 from 5 2"),
+    Row("check: illegal: several word counts, one of them 32", "bus --check many script", 1,
+        "script:1: terminal 08: illegal: transmit 3 is legal for 2-4,32 words\nscript:2: terminal 08: illegal: receive 3 is legal for 32 words\n"
+        "2 messages, 2 of them don't end well\n",
+        files={"many": "address = 8\n" + "".join(f"[[rule]]\ndirection = \"{it}\"\nsubaddresses = 3\ncounts = \"{counts}\"\n"
+                                                 for it, counts in (("transmit", "2-4,32"), ("receive", "32"))),
+               "script": "A tx 8 3 1\nB rx 8 3 1: 0000\n"}),
     checked("busy in the run", ["2: terminal 05: busy # in the run", "2 messages, 1 of them doesn't end well"],
             "05 flag busy 1", "A rx 5 1 1: 0001", "05 flag busy 0", "A rx 5 1 1: 0001"),
     checked("behind a command without its words", ["2: terminal 06: takes it for no message # in the run", "1 message, 1 of them doesn't end well"],
             "A c 3021", "A rx 6 1 1: 0001"),
-    checked("a transmitter that is shut down", ["2: terminal 06: in error: no status from the transmitter; terminal 07: done: transmitter shut down # in the run",
-                                                "3: terminal 06: in error: wrong word count; terminal 07: illegal # alone",
-                                                "3: terminal 06: in error: no status from the transmitter; terminal 07: illegal: transmitter shut down # in the run",
+    checked("a transmitter that is shut down", ["2: terminal 07: done: transmitter shut down; terminal 06: in error: no status from the transmitter # in the run",
+                                                "3: terminal 07: illegal: transmit 3 is not legal; terminal 06: in error: wrong word count # alone",
+                                                "3: terminal 07: illegal: transmitter shut down, transmit 3 is not legal;"
+                                                " terminal 06: in error: no status from the transmitter # in the run",
                                                 "3 messages, 2 of them don't end well"],
             "B mode 7 4", "A rx 6 1 1 from 7 2: 0000", "A rx 6 1 1 from 7 3: 0000"),
-    checked("broadcasts", ["2: no terminal takes the broadcast; terminal 07: illegal", "2 messages, 1 of them doesn't end well"],
+    checked("broadcasts", ["2: no terminal takes the broadcast; terminal 07: illegal: broadcast receive 2 is not legal", "2 messages, 1 of them doesn't end well"],
             "A rx all 1 1: 0001", "A rx all 2 1: 0001"),
     Row("check: a broadcast that one of its terminals takes for a word of another message", "bus --check hearer seven script", 1,
         "script:2: terminal 06: takes it for no message # in the run\n1 message, 1 of them doesn't end well\n",
@@ -186,15 +209,33 @@ ROWS = with_files(
     checked("a warning", ["3: terminal 05: ignored: during a reply # in the run", "1 message, 1 of them doesn't end well"], "A c 2c41\nA gap", "A tx 5 2 1",
             errors="script:3: warning: a gap while terminal 05 replies: another terminal can begin its reply\n"),
     checked("a line that is refused", [], "A tx 5 2 1", "08 flag busy 1", status=2, errors="script:2:1: error: no profile has address 08\n"),
+    checked("all lines that are refused", [], "08 flag busy 1", "A tx 5 2 1", "A tx 9 2 1", "A gup", "A rx 6 1 1", "# so", "flag busy 1", "05 bit 001", "05 A gap",
+            "A rx 6 1 1 from 8 1", "31 bit 0001", "#" * 65, "B rx 6 1 1 from 5 2", "A c 2c41", "A gap", "A gap", "# rate x", status=2, errors=(
+                "script:1:1: error: no profile has address 08\n"
+                "script:4:3: error: after a bus, rx, tx, mode, status or data is expected for a message, and c, d, gap or noise for an event\n"
+                "script:5:11: error: a colon is missing before the data words, as in A rx 5 3 1: 0001\n"
+                "script:7:1: error: a line of a subsystem begins with the address of its terminal, in two digits\n"
+                "script:8:11: error: a word is four hexadecimal digits, without a mark\n"
+                "script:9:1: error: an address stands only in front of write, vector, bit or flag\n"
+                "script:10:20: error: a colon and data words are missing: no profile has the address of the terminal that sends\n"
+                "script:11:1: error: no terminal has address 31: addresses are 00 to 30\n"
+                "script:12:65: error: a comment of over 64 bytes: a script has none that long\n")),
+    Row("check: too many lines", "bus --check five script", 2, "", "script: script: too many lines\n", files={"script": "\n" * 1048577}),
+    Row("check: a line that is refused, and too many", "bus --check five script", 2, "", "script:1048577:1: error: no profile has address 06\n",
+        files={"script": "\n" * 1048576 + "06 flag busy 1\n"}),
+    Row("check: no file", "bus --check five nothing", 4, "", "file: cannot read nothing: no such file\n"),
     named("each of its terminal", "5.csv 6.csv",
-          ['2: "speed": terminal 05: busy # in the run', "3: terminal 05: illegal", "4: no profile has address 09", "4 messages, 3 of them don't end well"],
+          ['2: "speed": terminal 05: busy # in the run', "3: terminal 05: illegal: transmit 3 is not legal", "4: no profile has address 09",
+           "4 messages, 3 of them don't end well"],
           "05 flag busy 1", "A rx 5 1 1: 0001", "A tx 5 3 1", "A rx 9 1 1: 0001", "B rx 6 1 1: 0002"),
     named("of the receiver, and else of the transmitter", "6.csv 5.csv",
-          ['1: "level": terminal 06: in error: wrong word count; terminal 05: illegal', "2: no profile has address 09; terminal 05: illegal",
+          ['1: "level": terminal 05: illegal: transmit 3 is not legal; terminal 06: in error: wrong word count',
+           "2: terminal 05: illegal: transmit 3 is not legal; no profile has address 09",
            '3: "the \\"pressure\\"": no profile has address 09', "3 messages, 3 of them don't end well"],
           "A rx 6 1 1 from 5 3: 0000", "A rx 9 1 1 from 5 3: 0000", "A rx 9 1 1 from 5 2: 0000"),
     named("of a broadcast, and of a mode code", "6.csv 7.csv",
-          ["2: no terminal takes the broadcast; terminal 07: illegal", '3: "off": terminal 07: illegal', "3 messages, 2 of them don't end well"],
+          ["2: no terminal takes the broadcast; terminal 07: illegal: broadcast receive 2 is not legal", '3: "off": terminal 07: illegal',
+           "3 messages, 2 of them don't end well"],
           "A rx all 1 1: 0001", "A rx all 2 1: 0001", "A mode 7 4 rx"),
     named("of a broadcast that none takes", "7.csv", ['1: "all of them": no terminal takes the broadcast', "1 message, 1 of them doesn't end well"],
           "A rx all 1 1: 0001")._replace(files={**FILES, **TABLES, "seven": "address = 7\n", "script": "A rx all 1 1: 0001\n"}),
@@ -340,6 +381,7 @@ REPORTS = [
     report_of("all end well", "--names 5.csv", "five six", "A rx 5 1 1: 0001", "B tx 6 2 1"),
     report_of("no message", "", "five", "# nothing"),
     report_of("a message that is refused", "--names 5.csv", "five six", "A tx 5 2 1", "A txx 5 2 1"),
+    report_of("several lines that are refused", "", "five six", "A txx 5 2 1", "A tx 5 2 1", "07 flag busy 1", "A <&\"gt", "flag busy 1"),
     report_of("a line of a subsystem that is refused", "--date 2026-01-31T12:00:00", "five six", "A tx 5 2 1", "07 flag busy 1"),
     *map(hostile, [*reports.CONTROLS, *reports.TURNING, *MARKED]),
 ]
@@ -383,14 +425,12 @@ def look_at_object(one, report, given, digests, shown):
                                 "canonical_sha256": digests.canonical(it)} for it in report.profiles]  # fmt: skip
     assert one["names"] == [{"file": it, "sha256": digests.of(it)} for it in option_in(report.words, "--names")]
     assert [one["date"]] == (option_in(report.words, "--date") or [None])
-    assert (one["file"], one["passes"]) == ("script", given.status == 0)
+    assert (one["file"], one["passes"], one["sha256"]) == ("script", given.status == 0, digests.of("script"))
     if given.status == 2:
         assert (one["messages"], one["troubles"], one["load"]) == (None, [], None)
         assert f"{one['fault']}\n".encode() == given.errors
-        # its messages are refused, and then no digest is told
-        assert one["sha256"] in (None, digests.of("script")) and (one["sha256"] is None) == ("txx" in report.lines[-1])
     else:
-        assert (one["fault"], one["sha256"]) == (None, digests.of("script"))
+        assert one["fault"] is None
         assert text_told(one, shown).encode() == given.output
 
 
@@ -400,7 +440,9 @@ def look_at_cases(suite, one, shown):
     assert {(it.get("classname"), it.get("time"), len(it.attrib)) for it in cases} <= {("script", "0", 3)}
     if one["fault"]:
         case, = cases
-        assert (case.get("name"), [(it.tag, it.attrib) for it in case]) == ("script", [("error", {"message": one["fault"]})])
+        error, = case
+        assert (case.get("name"), error.tag, error.attrib) == ("script", "error", {"message": one["fault"].split("\n")[0]})
+        assert error.text == f"{one['fault']}\n"
         return
     assert len(cases) == one["messages"]
     told = {it["line"]: it for it in one["troubles"]}

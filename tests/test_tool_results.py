@@ -40,7 +40,7 @@ CAUSES = with_files(
     Row("a script on the standard input", "run five /dev/stdin", 0, "A s 2800\n", stdin=ASK),
     Row("a folder", "check folder", 4, errors="file: cannot read folder: it is a folder\n"),
     Row("a folder for a script", "run five folder", 4, errors="file: cannot read folder: it is a folder\n"),
-    Row("a folder for a table", "recording folder --address 5", 4, errors="file: cannot read folder: it is a folder\n"),
+    Row("a folder for a table", "recording folder --address 5", 4, "#! row 1 was refused; rows written: 0\n", "file: cannot read folder: it is a folder\n"),
     Row("an empty name", ("canon", ""), 4, errors="file: the name of a file is empty\n"),
     Row("a name of more lines", ("check", "a\nb"), 4, errors="file: cannot read a\\nb: no such file\n"),
     Row("a profile that is too large", "check over", 4, errors="file: too large over: at most 1,048,576 bytes\n", files=files_named("over")),

@@ -192,17 +192,19 @@ def test_expand(tool, row, tmp_path):
 
 @pytest.mark.parametrize("profile", sorted(TOP.glob("examples/profiles/*.toml")), ids=lambda it: it.stem)
 def test_stated_answers_pass(tool, profile, tmp_path, count_runs):
-    """What is stated is all that is added, and the terminal passes it; another passes it exactly if it is stated of that one, too."""
+    """What is stated is all that is added, and the terminal passes it, if anything is stated; another passes it exactly if it is stated of
+    that one, too."""
     scripts = sorted(TOP.glob("examples/scripts/*.script"))
     for script in scripts:
         answered = run(tool, "answers", profile, script)
         assert (answered.status, answered.errors) == (0, b"")
         assert b"".join(it for it in answered.output.splitlines(True) if it[:3] not in (b"#> ", b"#+ ")) == script.read_bytes()
         (tmp_path / "answered").write_bytes(answered.output)
-        assert run(tool, "verify", profile, "answered", folder=tmp_path)[:2] == (0, b"")
+        passed = (0, b"") if b"#> " in answered.output else (3, b"answered: not judged: the script states no answer\n")
+        assert run(tool, "verify", profile, "answered", folder=tmp_path)[:2] == passed
         for other in TOP.glob("examples/profiles/*.toml"):
             is_same = run(tool, "answers", other, script).output == answered.output
-            assert run(tool, "verify", other, "answered", folder=tmp_path).status == 1 - is_same
+            assert run(tool, "verify", other, "answered", folder=tmp_path).status == (passed[0] if is_same else 1)
     count_runs(len(scripts))
 
 

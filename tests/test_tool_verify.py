@@ -14,6 +14,7 @@ SCRIPTS = {
     "good": f"{ASK}# of the terminal\n\n#> A s 2800\n",
     "wrong": f"{ASK}#> A s 2c00\nslot\n#> A d 0000\nA gap\n",
     "silent": ASK[:-1],
+    "gap": "A gap\n",
     "refused": "A c 2c02\nA gap\nslot \n",
     "long": "A gap\n#> hand sync 12345678901234567890123456789012345678901234567890123456789\n",
     "first": "#> A s 2800\nslot\n",
@@ -37,7 +38,17 @@ VERIFY = with_files(
     Row("an answer that is not stated", "verify five silent", 1,
         "silent:3: expected nothing, came A s 2800\nsilent: differences: 1\n",
         "silent: warning: the script states no answer\n"),
-    Row("a script without an event", "verify five idle", errors="idle: warning: the script has no event\n"),
+    Row("a script without an event", "verify five idle", 3, "idle: not judged: the script has no event\n"),
+    Row("a script that states no answer", "verify five gap", 3, "gap: not judged: the script states no answer\n"),
+    Row("nothing is judged of one script", "verify five idle good", 3, "idle: not judged: the script has no event\n"),
+    Row("nothing is judged of the last script", "verify five good gap", 3, "gap: not judged: the script states no answer\n"),
+    Row("nothing is judged of one script, and one differs", "verify five idle wrong gap", 1,
+        "idle: not judged: the script has no event\nwrong:3: expected A s 2c00, came A s 2800\nwrong:5: expected A d 0000, came nothing\n"
+        "wrong: differences: 2\ngap: not judged: the script states no answer\n"),
+    Row("nothing is judged of one script, and one is refused", "verify five refused idle", 2, "idle: not judged: the script has no event\n",
+        "refused:3:5: error: a space at the end: nothing may follow the last field\n"),
+    Row("nothing is judged of one script, and one is not there", "verify five idle none", 4, "idle: not judged: the script has no event\n",
+        "file: cannot read none: no such file\n"),
     Row("a line of no script", "verify five refused", 2,
         errors="refused:3:5: error: a space at the end: nothing may follow the last field\n"),
     Row("a line that is too long", "verify five long", 2, errors="long:2:65: error: over 64 bytes before the line feed\n"),
@@ -56,7 +67,7 @@ VERIFY = with_files(
     Row("comments that are none", "verify five near"),
     Row("check-script: comments that are none", "check-script near"),
     Row("a profile that is too large", "verify large good", 4, errors="file: too large large: at most 1,048,576 bytes\n", files={"large": bytes(1048577)}),
-    Row("as many lines as may be", "verify five lines", errors="lines: warning: the script has no event\n", files=MOST_LINES),
+    Row("as many lines as may be", "verify five lines", 3, "lines: not judged: the script has no event\n", files=MOST_LINES),
     Row("check-script: as many lines as may be", "check-script lines", files=MOST_LINES),
     Row("too many lines", "verify five lines", 2, errors="lines: script: too many lines\n", files=ONE_MORE),
     Row("check-script: too many lines", "check-script lines", 2, "lines:1048577:1: error: a script has at most 1,048,576 lines\n", files=ONE_MORE),
@@ -180,7 +191,8 @@ SUMMARIES = with_files(
         "late": "A gap\n# Profile: five.toml\n",
         "strange": "# Profile: seven.toml\nA gap\n",
         "broken": "# Profile: five.toml\n# Plan: 5.2.3\nslot \n",
-        "list": "# Profile: five.toml\n# Plan: 1, 1, 2, ,all\n",
+        "list": f"# Profile: five.toml\n# Plan: 1, 1, 2, ,all\n{ASK}#> A s 2800\n",
+        "idle": "A gap\n",
         "outside": "# Profile: ../five\n",
     },
     Row("a summary", "verify --summary folder/five.toml one", 0,
@@ -199,9 +211,12 @@ SUMMARIES = with_files(
     Row("no script is named", "verify --profiles folder", 3, errors="arguments: verify takes a script or several\n"),
     Row("a folder without a name", ("verify", "--profiles", "", "one"), 4, errors="file: the name of a file is empty\n"),
     Row("a clause named twice, an empty one, and one called all", "verify --summary --profiles folder list", 0,
-        "list: passed (answers: 0)\nclause 1: 1 of 1 scripts pass\nclause 2: 1 of 1 scripts pass\nclause all: 1 of 1 scripts pass\n"
-        "all: 1 of 1 scripts pass\n",
-        "list: warning: the script has no event\n"),
+        "list: passed (answers: 1)\nclause 1: 1 of 1 scripts pass\nclause 2: 1 of 1 scripts pass\nclause all: 1 of 1 scripts pass\n"
+        "all: 1 of 1 scripts pass\n"),
+    Row("a summary of a script of which nothing is judged", "verify --summary folder/five.toml one bare idle", 3,
+        "one: passed (answers: 1)\nbare: not judged: the script has no event\nidle: not judged: the script states no answer\n"
+        "clause 5.2.2: 1 of 2 scripts pass, 1 not judged\nclause 5.2.10: 1 of 1 scripts pass\nno clause: 0 of 1 scripts pass, 1 not judged\n"
+        "all: 1 of 3 scripts pass, 2 not judged\n"),
     Row("a profile outside of the folder", "verify --profiles folder outside", 2,
         errors="outside: script: the profile that it names is outside the folder\n"),
 )
@@ -213,12 +228,11 @@ def test_verify(tool, row, tmp_path):
 
 
 def test_summary_of_the_protocol_tests(tool):
-    """In one of them the terminal has no answer to give."""
+    """Each of them passes."""
     scripts = [it for part in ("scripts", "choices") for it in sorted((TOP / "examples/validation" / part).glob("*.script"))]
     words = ["verify", "--summary", "--profiles", "examples/validation/profiles", *(it.relative_to(TOP) for it in scripts)]
     given = run(tool, *words, folder=TOP)
-    warned = b"examples/validation/scripts/5.2.1.1.1_other_terminals.script: warning: the script states no answer\n"
-    assert (given.status, given.errors) == (0, warned)
+    assert (given.status, given.errors) == (0, b"")
     lines = given.output.splitlines()
     assert lines[-1] == b"all: 154 of 154 scripts pass"
     assert b"clause 5.2.1.1.1: 9 of 9 scripts pass" in lines
