@@ -136,6 +136,16 @@ heard_seen setup last time bus (seen.Valid sync bits) = heard_by (speaker_with s
 abbrev pub is_meant_for : ℕ → ℕ → Bool
 is_meant_for address command = (address_of command == address) || (address_of command == 31)
 
+-- it is a command word for the terminal of this address, or for all
+abbrev pub is_command_for : ℕ → HeardItem → Bool
+is_command_for address (heard.Word bus Command bits) = is_meant_for address bits
+is_command_for address _ = false
+
+-- so was the last word on a bus
+abbrev pub was_command_for : ℕ → Option LastWord → Bool
+was_command_for address None = false
+was_command_for address (Some w) = is_command_for address w.heard
+
 -- a word at this time follows the last one without a gap
 abbrev pub is_contiguous : RecordingSetup → Option LastWord → ℕ → Bool
 is_contiguous setup None time = false
@@ -194,6 +204,18 @@ row_known l row = with_last l row.bus (row_last l row)
 abbrev pub row_time : Listening → WordRow → ℕ
 row_time l row = heard_time (row_heard l row) row.time.nanos
 
+-- the word of a row is one of the terminal
+abbrev pub is_own_row : Listening → WordRow → Bool
+is_own_row l row = is_own_word (row_heard l row)
+
+-- or one of another, behind which a message to the terminal is open
+abbrev pub is_open_row : Listening → WordRow → Bool
+is_open_row l row = not (is_own_row l row) && is_open_behind l.setup (last_on l row.bus) row.time.nanos (row_heard l row)
+
+-- or a command to the terminal
+abbrev pub is_command_row : Listening → WordRow → Bool
+is_command_row l row = is_command_for l.setup.address (row_heard l row)
+
 -- when the last word on a bus ends, if there was one
 abbrev pub end_on : Listening → Bus → Option ℕ
 end_on l bus = end_of_word (last_on l bus)
@@ -215,6 +237,15 @@ falls_silent l bus silence time = becomes_longer (silent_since (last_on l bus)) 
 -- a pause is heard before a word that begins at this time: no word came on either bus for longer than that, and one came before
 abbrev pub is_pause_before : Listening → ℕ → Bool
 is_pause_before l time = has_passed (later_end (end_of_word l.a) (end_of_word l.b)) (pause_of l.setup) time
+
+-- The terminal may have taken the silence of a bus for a gap by this time, or not: it does no later than it has to reply.
+abbrev pub may_be_gap : Listening → Bus → ℕ → Bool
+may_be_gap l bus time = has_passed (silent_since (last_on l bus)) l.setup.gap time && not (has_passed (silent_since (last_on l bus)) l.setup.no_response time)
+
+-- Such a silence goes on up to here, on the other bus than that of the latest word, a command to the terminal: the gap may have come behind it.
+abbrev pub was_unclear_gap : Listening → Bus → ℕ → Bool
+was_unclear_gap l bus time =
+    was_command_for l.setup.address (last_on l (other bus)) && (may_be_gap l bus (latest_time l) && not (is_before_end time (Some (latest_time l))))
 
 -- The terminal had to send by now, and did not: the bus with its message has been silent for longer than no response, and all words on the
 -- other bus were over when that silence began.
@@ -269,7 +300,7 @@ other_until l row (Some begin) = min begin (row_time l row)
 
 -- the gap on a bus that was silent up to this time, and the second one; in a pause each is heard
 abbrev pub first_gap_on : Listening → Bus → ℕ → Bool → Option HeardItem
-first_gap_on l bus time is_pause = gap_if (falls_silent l bus l.setup.gap time || is_pause) bus
+first_gap_on l bus time is_pause = gap_if (falls_silent l bus l.setup.gap time || (was_unclear_gap l bus time || is_pause)) bus
 
 abbrev pub second_on : Listening → Bus → ℕ → Bool → Option HeardItem
 second_on l bus time is_pause = gap_if (gives_up l bus time || is_pause) bus
@@ -278,11 +309,23 @@ second_on l bus time is_pause = gap_if (gives_up l bus time || is_pause) bus
 abbrev pub maybe_on : Listening → Bus → ℕ → HeardItem → Option HeardItem
 maybe_on l bus time x = maybe_gap_if (not (is_own_word x) && may_give_up l bus time) bus
 
+-- The gap on the other bus may come before the word of a row or behind it, and that decides what the word ends: it is a command to the terminal.
+abbrev pub is_unclear_gap : Listening → WordRow → Option ℕ → Bool
+is_unclear_gap l row next =
+    is_command_row l row
+    && (may_be_gap l (other row.bus) (row_time l row) && not (is_before_end (other_until l row next) (Some (row_time l row))))
+
+-- the gap on the other bus
+abbrev pub other_gap_on : Listening → WordRow → Option ℕ → Option HeardItem
+other_gap_on l row next =
+    if is_unclear_gap l row next then Some (heard.MaybeGap (other row.bus))
+    else first_gap_on l (other row.bus) (other_until l row next) (is_pause_before l row.time.nanos)
+
 -- What is heard of the silence before the word of a row: its own bus is silent until it begins, the other until it is heard or sent, or until
 -- the next word begins there.
 abbrev pub silence_before : Listening → WordRow → Option ℕ → Silence
 silence_before l row next = record {
-  other_gap = first_gap_on l (other row.bus) (other_until l row next) (is_pause_before l row.time.nanos);
+  other_gap = other_gap_on l row next;
   own_gap = first_gap_on l row.bus row.time.nanos (is_pause_before l row.time.nanos);
   slot = slot_if (has_slot_on l (other row.bus) (other_until l row next) || has_slot_on l row.bus row.time.nanos);
   other_second = second_on l (other row.bus) (other_until l row next) (is_pause_before l row.time.nanos);

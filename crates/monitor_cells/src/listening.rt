@@ -1,6 +1,6 @@
 //! What is heard on two buses, by the last word on each.
 ghost use Rattle.std.specs.Prelude.{◌≡◌};
-ghost use Rattle.monitor_cells.specs.Listening.{word_end, has_passed, has_lasted, later_end, is_over_before, is_before_end, is_own_word, is_reply, counts, heard_time, end_of_word, time_of, silent_since, speaker_of, speaker_at, speaker_with, heard_by, speaker_seen, heard_seen, is_meant_for, is_contiguous, is_open_at, is_open_behind, last_on, with_last, listening_first, latest_time, row_heard, row_last, row_known, row_time, end_on, is_open_last, is_open_on, becomes_longer, falls_silent, is_pause_before, is_silent_reply, is_reply_over, has_slot_on, gives_up, may_give_up, other_until, first_gap_on, second_on, maybe_on, silence_before, last_silence};
+ghost use Rattle.monitor_cells.specs.Listening.{word_end, has_passed, has_lasted, later_end, is_over_before, is_before_end, is_own_word, is_reply, counts, heard_time, end_of_word, time_of, silent_since, speaker_of, speaker_at, speaker_with, heard_by, speaker_seen, heard_seen, is_meant_for, is_contiguous, is_open_at, is_open_behind, last_on, with_last, listening_first, latest_time, row_heard, row_last, row_known, row_time, is_own_row, is_open_row, is_command_row, end_on, is_open_last, is_open_on, is_command_for, was_command_for, becomes_longer, falls_silent, may_be_gap, was_unclear_gap, is_unclear_gap, is_pause_before, is_silent_reply, is_reply_over, has_slot_on, gives_up, may_give_up, other_until, first_gap_on, other_gap_on, second_on, maybe_on, silence_before, last_silence};
 
 use crate::cells::{WordSync, kind_of_sync};
 use crate::heard::{HeardItem, is_command_sync, other_bus};
@@ -175,6 +175,26 @@ fn is_open_last(last: &Option<LastWord>) -> bool
 {
     match last {
         Some(word) => word.is_open,
+        None => false,
+    }
+}
+
+/// Whether it is a command word for the terminal of this address, or for all.
+fn is_command_for(address: u8, heard: &HeardItem) -> bool
+    ensures { result ≡ is_command_for address heard.now }
+{
+    match heard {
+        HeardItem::Word(_, WordSync::Command, bits) => is_meant_for(address, *bits),
+        _ => false,
+    }
+}
+
+/// Whether the last word on a bus was one.
+fn was_command_for(address: u8, last: &Option<LastWord>) -> bool
+    ensures { result ≡ was_command_for address last.now }
+{
+    match last {
+        Some(word) => is_command_for(address, &word.heard),
         None => false,
     }
 }
@@ -365,6 +385,29 @@ impl Listening {
         heard_time(&self.row_heard(row), row.time.nanos)
     }
 
+    /// Whether the word of a row is one of the terminal.
+    pub fn is_own_row(&self, row: &WordRow) -> bool
+        ensures { result ≡ is_own_row self.now row.now }
+    {
+        is_own_word(&self.row_heard(row))
+    }
+
+    /// Whether it is one of another, behind which a message to the terminal is open.
+    pub fn is_open_row(&self, row: &WordRow) -> bool
+        ensures { result ≡ is_open_row self.now row.now }
+    {
+        let heard = self.row_heard(row);
+        let last = self.last_on(row.bus);
+        !is_own_word(&heard) && self.setup.is_open_behind(&last, row.time.nanos, &heard)
+    }
+
+    /// Whether it is a command to the terminal.
+    pub fn is_command_row(&self, row: &WordRow) -> bool
+        ensures { result ≡ is_command_row self.now row.now }
+    {
+        is_command_for(self.setup.address, &self.row_heard(row))
+    }
+
     /// Up to when the other bus is silent, before the word of a row is heard or sent.
     fn other_until(&self, row: &WordRow, next: Option<u64>) -> u64
         ensures { result ≡ other_until self.now row.now next }
@@ -411,6 +454,34 @@ impl Listening {
     {
         let since = silent_since(&self.last_on(bus));
         becomes_longer(since, silence, self.latest_time(), time)
+    }
+
+    /// Whether the terminal may have taken the silence of a bus for a gap by this time, or not: it does no later than it has to reply.
+    fn may_be_gap(&self, bus: Bus, time: u64) -> bool
+        ensures { result ≡ may_be_gap self.now bus time }
+    {
+        let since = silent_since(&self.last_on(bus));
+        has_passed(since, self.setup.gap, time) && !has_passed(since, self.setup.no_response, time)
+    }
+
+    /// Whether such a silence goes on up to here since a command to the terminal on the other bus, the latest word.
+    fn was_unclear_gap(&self, bus: Bus, time: u64) -> bool
+        ensures { result ≡ was_unclear_gap self.now bus time }
+    {
+        let latest = self.latest_time();
+        was_command_for(self.setup.address, &self.last_on(other_bus(bus)))
+            && self.may_be_gap(bus, latest)
+            && !is_before_end(time, Some(latest))
+    }
+
+    /// Whether the gap on the other bus may come before the word of a row or behind it, a command to the terminal.
+    fn is_unclear_gap(&self, row: &WordRow, next: Option<u64>) -> bool
+        ensures { result ≡ is_unclear_gap self.now row.now next }
+    {
+        let time = self.row_time(row);
+        self.is_command_row(row)
+            && self.may_be_gap(other_bus(row.bus), time)
+            && !is_before_end(self.other_until(row, next), Some(time))
     }
 
     /// Whether a pause is heard before a word that begins at this time.
@@ -479,9 +550,27 @@ impl Listening {
         ensures { result ≡ first_gap_on self.now bus time is_pause }
     {
         gap_if(
-            self.falls_silent(bus, self.setup.gap, time) || is_pause,
+            self.falls_silent(bus, self.setup.gap, time)
+                || self.was_unclear_gap(bus, time)
+                || is_pause,
             bus,
         )
+    }
+
+    /// The gap on the other bus before the word of a row.
+    fn other_gap_on(&self, row: &WordRow, next: Option<u64>) -> Option<HeardItem>
+        ensures { result ≡ other_gap_on self.now row.now next }
+    {
+        let other = other_bus(row.bus);
+        if self.is_unclear_gap(row, next) {
+            Some(HeardItem::MaybeGap(other))
+        } else {
+            self.first_gap_on(
+                other,
+                self.other_until(row, next),
+                self.is_pause_before(row.time.nanos),
+            )
+        }
     }
 
     /// The second gap there.
@@ -509,7 +598,7 @@ impl Listening {
         let until = self.other_until(row, next);
         let is_pause = self.is_pause_before(begin);
         Silence {
-            other_gap: self.first_gap_on(other, until, is_pause),
+            other_gap: self.other_gap_on(row, next),
             own_gap: self.first_gap_on(own, begin, is_pause),
             slot: slot_if(self.has_slot_on(other, until) || self.has_slot_on(own, begin)),
             other_second: self.second_on(other, until, is_pause),

@@ -1,11 +1,11 @@
 -- The words of a table in the order in which they are heard or sent: of two that overlap, on two buses, the one that begins later may come first.
-use Rattle.std.specs.Prelude.{ℕ, nat_lt, Bool, false, not, ◌&&◌, if◌then◌else◌, Option, Some, None}
+use Rattle.std.specs.Prelude.{ℕ, nat_lt, Bool, false, not, ◌&&◌, ◌||◌, if◌then◌else◌, Option, Some, None}
 use Rattle.bus_word.specs.declared.word.Bus.{Bus}
 use Rattle.terminal_rules.specs.Buses.{same_bus}
 use Rattle.monitor_cells.specs.declared.listening.Listening.{Listening}
 use Rattle.monitor_cells.specs.declared.seen.WordRow.{WordRow}
 use Rattle.monitor_cells.specs.declared.setup.RecordingSetup.{RecordingSetup}
-use Rattle.monitor_cells.specs.Listening.{listening_first, word_end, is_before_end, row_time, row_known, end_on}
+use Rattle.monitor_cells.specs.Listening.{listening_first, word_end, is_before_end, row_time, row_known, is_own_row, is_open_row, is_command_row, end_on}
 use Rattle.monitor_tables.specs.declared.hearing.Hearing.{Hearing}
 
 -- nothing was read yet
@@ -16,9 +16,23 @@ hearing_first setup = record { listening = listening_first setup; held = None }
 abbrev pub begin_beside : Bus → WordRow → Option ℕ
 begin_beside bus row = if same_bus bus row.bus then None else Some row.time.nanos
 
--- a word is heard, or sent, before one above it, which is on the other bus
+-- A word of the terminal is sent before one above it is heard, of another on the other bus; also where it begins up to 1 microsecond later, since
+-- a command that was heard before would have ended the reply.
 abbrev pub comes_first : Listening → WordRow → WordRow → Bool
-comes_first l row held = not (same_bus row.bus held.bus) && nat_lt (row_time l row) (row_time l held)
+comes_first l row held =
+    not (same_bus row.bus held.bus)
+    && ((is_own_row l row && not (is_own_row l held)) && not (is_before_end (row_time l held) (Some (row_time l row))))
+
+-- The order of two words of others decides, and times don't tell it: they end within 1 microsecond on two buses, behind each a message to the terminal
+-- is open, and one of them is a command to it.
+abbrev pub has_unclear_order_with : Listening → WordRow → Option WordRow → Bool
+has_unclear_order_with l row None = false
+has_unclear_order_with l row (Some held) =
+    (not (same_bus row.bus held.bus) && not (is_before_end (row_time l held) (Some (row_time l row))))
+    && ((is_open_row l row && is_open_row l held) && (is_command_row l row || is_command_row l held))
+
+abbrev pub has_unclear_order : Hearing → WordRow → Bool
+has_unclear_order h row = has_unclear_order_with h.listening row h.held
 
 -- when the last word on a bus ends, of those that were read, if there was one
 abbrev pub end_read_by : Listening → Option WordRow → Bus → Option ℕ

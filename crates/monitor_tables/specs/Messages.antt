@@ -1,6 +1,6 @@
 -- What is heard of a message in a table: what the controller sends, then the reply of the terminal that is to reply first, then the status
 -- word of the one that received what that sent; between them gaps. When it ends is known only within bounds.
-use Rattle.std.specs.Prelude.{ℕ, nat_lt, Bool, false, not, ◌&&◌, ◌||◌, ◌==◌, ◌+◌, ◌*◌, ◌-◌, ◌^◌, min, if◌then◌else◌, Option, Some, None, is_none, is_some, List, [], ◌∷◌, ◌++◌, length, map}
+use Rattle.std.specs.Prelude.{ℕ, nat_lt, Bool, false, not, ◌&&◌, ◌||◌, ◌==◌, ◌+◌, ◌*◌, ◌-◌, ◌^◌, min, max, if◌then◌else◌, Option, Some, None, is_none, is_some, List, [], ◌∷◌, ◌++◌, length, map}
 use Rattle.bus_word.specs.declared.word.Bus.{Bus}
 use Rattle.bus_word.specs.declared.word.Bus.TheVariants.{A, B}
 use Rattle.bus_word.specs.Command.{address_of, transmits}
@@ -240,10 +240,14 @@ is_bus bus (Some on) = same_bus bus on
 abbrev pub is_above : MessageTimes → Bus → Bool
 is_above times bus = is_bus bus times.above
 
+-- a terminal has taken a silence for a gap when it would have to reply, at the latest
+abbrev pub gap_at_latest : RecordingSetup → ℕ
+gap_at_latest setup = max setup.gap setup.no_response
+
 -- The last message on a bus has surely ended with a gap before a message: that is on the same bus, or its first command is heard later than the
 -- gap at the latest.
 abbrev pub has_surely_ended : MessageTimes → MessageRow → Bus → Bool
-has_surely_ended times row bus = same_bus bus row.bus || has_passed (end_of_last (last_message times bus)) times.setup.gap (silent_until row bus)
+has_surely_ended times row bus = same_bus bus row.bus || has_passed (end_of_last (last_message times bus)) (gap_at_latest times.setup) (silent_until row bus)
 
 -- it is the one above, and its gap may be heard later
 abbrev pub may_go_on : MessageTimes → MessageRow → Bus → Bool
@@ -255,7 +259,7 @@ may_have_ended times row bus = may_go_on times row bus && has_passed (words_of_l
 
 -- the last message on a bus had not surely ended with a gap when the message above was heard: that is itself, or one on the other bus
 abbrev pub went_on : MessageTimes → Bus → Bool
-went_on times bus = is_some (last_message times bus) && not (has_passed (end_of_last (last_message times bus)) times.setup.gap (heard_above times))
+went_on times bus = is_some (last_message times bus) && not (has_passed (end_of_last (last_message times bus)) (gap_at_latest times.setup) (heard_above times))
 
 -- the gap on a bus, before a message; in a pause it is heard anyway
 abbrev pub gap_between : MessageTimes → MessageRow → Bus → Option HeardItem

@@ -15,7 +15,7 @@ use Rattle.monitor_cells.specs.Cells.{IsTime, time_said, is_headed, bus_said, sy
 use Rattle.monitor_tables.specs.Fields.{record_text, HasNoExtra}
 use Rattle.monitor_cells.specs.Listening.{silence_before, last_silence, row_heard}
 use Rattle.monitor_tables.specs.declared.hearing.Hearing.{Hearing}
-use Rattle.monitor_tables.specs.Hearing.{hearing_first, begin_beside, comes_first, overlaps, is_early, hearing_known, all_known}
+use Rattle.monitor_tables.specs.Hearing.{hearing_first, begin_beside, comes_first, has_unclear_order, overlaps, is_early, hearing_known, all_known}
 use Rattle.monitor_tables.specs.declared.header.TableLayout.{TableLayout}
 use Rattle.monitor_tables.specs.declared.header.TableLayout.TheVariants.{Words, Messages}
 use Rattle.monitor_cells.specs.declared.heard.HeardItem.{HeardItem}
@@ -160,9 +160,9 @@ abbrev pub rows_noted : Hearing → List WordRow → List HeardAt
 rows_noted h [] = []
 rows_noted h (row ∷ rows) = hearing_noted h row ++ rows_noted (hearing_known h row) rows
 
--- a word begins neither before the one above it on its bus ends, nor before the one that is held back
+-- a word begins neither before the one above it on its bus ends, nor before the one that is held back, and their order is clear
 abbrev pub IsApart : Hearing → WordRow → Type 0
-IsApart h row = (overlaps h row ≡ false) × (is_early h row ≡ false)
+IsApart h row = (overlaps h row ≡ false) × (is_early h row ≡ false) × (has_unclear_order h row ≡ false)
 
 -- so does each of these
 abbrev pub AreApart : Hearing → List WordRow → Type 0

@@ -1,6 +1,6 @@
 //! The words of a table, in the order in which they are heard or sent.
 ghost use Rattle.std.specs.Prelude.{◌≡◌};
-ghost use Rattle.monitor_tables.specs.Hearing.{hearing_first, begin_beside, comes_first, end_read, overlaps, is_early};
+ghost use Rattle.monitor_tables.specs.Hearing.{hearing_first, begin_beside, comes_first, has_unclear_order, end_read, overlaps, is_early};
 
 use bus_word::Bus;
 use monitor_cells::{Listening, RecordingSetup, WordRow, is_before_end, word_end};
@@ -26,11 +26,14 @@ pub fn begin_beside(bus: Bus, row: &WordRow) -> Option<u64>
     }
 }
 
-/// Whether a word is heard, or sent, before one above it, which is on the other bus.
+/// Whether a word of the terminal is sent before one above it is heard, of another on the other bus.
 pub fn comes_first(listening: &Listening, row: &WordRow, held: &WordRow) -> bool
     ensures { result ≡ comes_first listening.now row.now held.now }
 {
-    !same_bus(row.bus, held.bus) && listening.row_time(row) < listening.row_time(held)
+    !same_bus(row.bus, held.bus)
+        && listening.is_own_row(row)
+        && !listening.is_own_row(held)
+        && !is_before_end(listening.row_time(held), Some(listening.row_time(row)))
 }
 
 impl Hearing {
@@ -67,6 +70,22 @@ impl Hearing {
     {
         match &self.held {
             Some(held) => row.time.nanos < held.time.nanos,
+            None => false,
+        }
+    }
+    /// Whether its order and that of the word that is held back decides, and times don't tell it.
+    pub fn has_unclear_order(&self, row: &WordRow) -> bool
+        ensures { result ≡ has_unclear_order self.now row.now }
+    {
+        let listening = &self.listening;
+        match &self.held {
+            Some(held) => {
+                !same_bus(row.bus, held.bus)
+                    && !is_before_end(listening.row_time(held), Some(listening.row_time(row)))
+                    && listening.is_open_row(row)
+                    && listening.is_open_row(held)
+                    && (listening.is_command_row(row) || listening.is_command_row(held))
+            }
             None => false,
         }
     }

@@ -1,6 +1,6 @@
 //! Messages by their times: what is heard of the silences between them.
 ghost use Rattle.std.specs.Prelude.{◌≡◌, ◌-◌, ◌^◌, min};
-ghost use Rattle.monitor_tables.specs.Messages.{is_meant_command, is_own_status, first_or_second, field_words, message_words, message_replies, commands_end, latest_end, words_end, is_awaiting, is_asked, sent_no_status, ends_in_reply, message_last, no_messages, last_message, last_after, message_known, words_of_last, end_of_last, commands_of_last, is_heard_before, begins_within, is_above, has_surely_ended, went_on, may_go_on, may_have_ended, gap_between, late_gap, is_pause_between, heard_above, silent_until, is_long_over, is_followed, has_slot_behind, has_slot_between, has_given_up, may_have_given_up, second_between, maybe_between, silence_between, silence_behind};
+ghost use Rattle.monitor_tables.specs.Messages.{is_meant_command, is_own_status, first_or_second, field_words, message_words, message_replies, commands_end, latest_end, words_end, is_awaiting, is_asked, sent_no_status, ends_in_reply, message_last, no_messages, last_message, last_after, message_known, words_of_last, end_of_last, commands_of_last, is_heard_before, begins_within, is_above, gap_at_latest, has_surely_ended, went_on, may_go_on, may_have_ended, gap_between, late_gap, is_pause_between, heard_above, silent_until, is_long_over, is_followed, has_slot_behind, has_slot_between, has_given_up, may_have_given_up, second_between, maybe_between, silence_between, silence_behind};
 
 use crate::messages::{MessageRow, is_own_status};
 use bus_word::Bus;
@@ -223,6 +223,13 @@ fn is_heard_before(row: &MessageRow, end: Option<u64>) -> bool
     }
 }
 
+/// By when a terminal has taken a silence for a gap: when it would have to reply, at the latest.
+fn gap_at_latest(setup: &RecordingSetup) -> u64
+    ensures { result ≡ gap_at_latest setup.now }
+{
+    setup.gap.max(setup.no_response)
+}
+
 impl MessageTimes {
     /// No message yet.
     pub fn new(setup: RecordingSetup) -> MessageTimes
@@ -359,7 +366,8 @@ impl MessageTimes {
         ensures { result ≡ has_surely_ended self.now row.now bus }
     {
         let end = end_of_last(&self.last_message(bus));
-        same_bus(bus, row.bus) || has_passed(end, self.setup.gap, silent_until(row, bus))
+        same_bus(bus, row.bus)
+            || has_passed(end, gap_at_latest(&self.setup), silent_until(row, bus))
     }
 
     /// Whether it is the one above, and its gap may be heard later.
@@ -382,7 +390,12 @@ impl MessageTimes {
         ensures { result ≡ went_on self.now bus }
     {
         let last = self.last_message(bus);
-        last.is_some() && !has_passed(end_of_last(&last), self.setup.gap, self.heard_above())
+        last.is_some()
+            && !has_passed(
+                end_of_last(&last),
+                gap_at_latest(&self.setup),
+                self.heard_above(),
+            )
     }
 
     /// The gap on a bus before a message, if there is one.

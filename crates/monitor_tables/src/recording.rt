@@ -115,6 +115,9 @@ fn next_word<R: Read + Drop>(
     if hearing.is_early(&row) {
         return Err(MonitorFault::Order(records.place(columns.time)));
     }
+    if hearing.has_unclear_order(&row) {
+        return Err(MonitorFault::UnclearOrder(records.place(columns.time)));
+    }
     Ok(Some(row))
 }
 

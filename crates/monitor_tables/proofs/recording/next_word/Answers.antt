@@ -7,4 +7,4 @@ pub returns-then-not-branch : goal.returns-then-not-branch
 returns-then-not-branch g c = next-all _ _ _ c.if-not-branch.true c.in_ok-next.ensures.reads
 
 pub returns : goal.returns
-returns g c = (fields_of c.next.new.self.row, c.in_ok-row.ensures, next-told _ _ _ c.if-not-branch.false c.in_ok-next.ensures.reads, (sym c.overlaps.ensures ∙ c.if-overlaps.false, sym c.is_early.ensures ∙ c.if-is_early.false))
+returns g c = (fields_of c.next.new.self.row, c.in_ok-row.ensures, next-told _ _ _ c.if-not-branch.false c.in_ok-next.ensures.reads, (sym c.overlaps.ensures ∙ c.if-overlaps.false, sym c.is_early.ensures ∙ c.if-is_early.false, sym c.has_unclear_order.ensures ∙ c.if-has_unclear_order.false))
