@@ -179,7 +179,7 @@ def told_of(text, end=":"):
 
 
 def unjudged(recording):
-    """Why nothing of a recording is judged that is explained; None where something is."""
+    """Why nothing is judged of a recording that is explained, or of a part of one; None where something is."""
     if any(sent for _, sent in recording):
         return None
     return "the script states no answer" if recording else "the script has no event"
@@ -227,7 +227,8 @@ def check_judged_later(build, folder, setup, recordings):
             assert (told[name], parts.get(name)) == ([f"{name}: not judged: no part begins afresh after a pause"], None)
         else:
             assert parts[name] == [f"{name}: judged after line {lines[begin - 1]}"]
-            check_told(functools.partial(explained_later, setup), recording[begin:], name, lines[begin:], told.get(name, []), unjudged(recording))
+            part = recording[begin:]
+            check_told(functools.partial(explained_later, setup), part, name, lines[begin:], told.get(name, []), unjudged(part))
 
 
 # ---- scripts that explain them
@@ -288,7 +289,7 @@ def check_one_played_later(build, folder, setup, recording, name):
     if explained_later(setup, part) != len(part):
         assert status == 1, name
         return
-    if begin is None or unjudged(recording):
+    if unjudged(part):
         assert status == 3, name
         return
     # in subaddress 0, transmitter shutdown on the other bus
