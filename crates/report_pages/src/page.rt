@@ -12,8 +12,8 @@ use message_names::quoted;
 use rt1553_draw::{MOST_STATED, push_front, push_keys};
 use rt1553_report::{
     AnswerNames, FileDigests, NamesTable, ReplyDifference, ReportHead, Scope, ScopeRow,
-    ScriptOutcome, ScriptResult, Totals, TriedScript, UnitVerdict, answer_told, clause_rows,
-    name_at, push_digest, push_markup, push_shown, result_word, totals_of,
+    ScriptOutcome, ScriptResult, Totals, TriedScript, UnitVerdict, Wording, answer_told,
+    clause_rows, name_at, push_digest, push_markup, push_shown, result_word, slot_fault, totals_of,
 };
 use rt1553_verify::WrongAnswer;
 use std::alloc::{AllocError, Global};
@@ -441,18 +441,34 @@ fn push_answer(alloc: Global, page: &mut String, answer: &[u8]) -> Result<(), Al
     page.push_str("</td>")
 }
 
+/// How the columns behind the line and the message are headed: the rule or the time, what is wrong with a unit, and the two answers.
+fn wrong_headings(wording: Wording) -> (&'static str, &'static str) {
+    match wording {
+        Wording::Test => (
+            "<th scope=\"col\">rule</th>",
+            "<th scope=\"col\">expected</th><th scope=\"col\">came</th></tr></thead>\n<tbody>\n",
+        ),
+        Wording::Recording => (
+            "<th scope=\"col\">time</th>",
+            "<th scope=\"col\">fault</th><th scope=\"col\">recorded</th><th scope=\"col\">the terminal sends</th></tr></thead>\n<tbody>\n",
+        ),
+    }
+}
+
 /// Writes the head of the table of events.
-fn push_wrong_head(page: &mut String, has_names: bool, has_rules: bool) -> Result<(), AllocError> {
+fn push_wrong_head(
+    page: &mut String,
+    wording: Wording,
+    has_names: bool,
+    has_rules: bool,
+) -> Result<(), AllocError> {
+    let (rule, answers) = wrong_headings(wording);
     page.push_str("<table>\n<thead><tr><th scope=\"col\">line</th>")?;
     if has_names {
         page.push_str("<th scope=\"col\">message</th>")?;
     }
-    if has_rules {
-        page.push_str("<th scope=\"col\">rule</th>")?;
-    }
-    page.push_str(
-        "<th scope=\"col\">expected</th><th scope=\"col\">came</th></tr></thead>\n<tbody>\n",
-    )
+    page.push_str(if has_rules { rule } else { "" })?;
+    page.push_str(answers)
 }
 
 /// Writes the name of a message in a field, empty for none.
@@ -477,7 +493,7 @@ fn push_message(
     push_name_field(alloc, page, name_at(names, index))
 }
 
-/// Writes the rule under which an event stands, where there are rules.
+/// Writes the rule under which an event stands, or its time, where there are any.
 fn push_rule(page: &mut String, rules: &AnswerNames, index: usize) -> Result<(), AllocError> {
     if rules.names.is_empty() {
         return Ok(());
@@ -487,19 +503,32 @@ fn push_rule(page: &mut String, rules: &AnswerNames, index: usize) -> Result<(),
     page.push_str("</td>")
 }
 
+/// Writes what is wrong with a unit, where a recording tells it.
+fn push_fault(page: &mut String, wording: Wording, one: &WrongAnswer) -> Result<(), AllocError> {
+    match wording {
+        Wording::Test => Ok(()),
+        Wording::Recording => {
+            let fault = slot_fault(one.expected.as_slice(), one.came.as_slice());
+            write!(page, "<td>{fault}</td>")
+        }
+    }
+}
+
 /// Writes each event that was not answered as stated.
 fn push_wrong(
     alloc: Global,
     page: &mut String,
     wrong: &[WrongAnswer],
+    wording: Wording,
     names: &Option<AnswerNames>,
     rules: &AnswerNames,
 ) -> Result<(), AllocError> {
-    push_wrong_head(page, names.is_some(), !rules.names.is_empty())?;
+    push_wrong_head(page, wording, names.is_some(), !rules.names.is_empty())?;
     for (index, one) in wrong.iter().enumerate() {
         write!(page, "<tr><td class=\"count\">{}</td>", one.line)?;
         push_message(alloc, page, names, index)?;
         push_rule(page, rules, index)?;
+        push_fault(page, wording, one)?;
         push_answer(alloc, page, one.expected.as_slice())?;
         push_answer(alloc, page, one.came.as_slice())?;
         page.push_str("</tr>\n")?;
@@ -622,6 +651,7 @@ fn push_result(alloc: Global, page: &mut String, of: &ScriptResult) -> Result<()
         ScriptOutcome::Played {
             answers,
             wrong,
+            wording,
             names,
             rules,
             drawing,
@@ -632,7 +662,7 @@ fn push_result(alloc: Global, page: &mut String, of: &ScriptResult) -> Result<()
                 "<p>differences: {}; answers stated: {answers}</p>",
                 wrong.len()
             )?;
-            push_wrong(alloc, page, wrong.as_slice(), names, rules)?;
+            push_wrong(alloc, page, wrong.as_slice(), *wording, names, rules)?;
             push_drawing(page, wrong.len(), drawing)
         }
     }

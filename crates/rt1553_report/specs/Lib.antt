@@ -1,5 +1,6 @@
 pub mod Unit
 pub mod Verdict
+pub mod Recorded
 pub mod Results
 pub mod Clauses
 pub mod Shown

@@ -6,7 +6,7 @@ ghost use Rattle.rt1553_report.specs.inner.Lines.{IsLineOf};
 
 use crate::head::{ReportHead, digest_text};
 use crate::result::{AnswerNames, ScriptOutcome, ScriptResult};
-use crate::told::answer_told;
+use crate::told::{Wording, answer_told, slot_fault};
 use crate::unit::{ReplyDifference, UnitVerdict};
 use crate::verdict::result_word;
 use ascii_json::in_ascii;
@@ -27,6 +27,21 @@ struct WrongEntry {
     rule: Option<String>,
     expected: Option<String>,
     came: Option<String>,
+}
+
+/// A slot of a recording in which the terminal sends another word than was recorded, or none.
+#[derive(Drop, Serialize)]
+struct RecordedEntry {
+    line: u64,
+    /// The name of its message, null for none; left out where there are no names.
+    #[serde(skip_serializing_if = "Option::is_none")]
+    name: Option<Option<String>>,
+    /// The text of the last comment before it, null for none: in the recording of a table, a time.
+    time: Option<String>,
+    /// What is wrong with the unit.
+    fault: &'static str,
+    recorded: Option<String>,
+    sends: Option<String>,
 }
 
 /// A reply of a unit that is not that of the terminal.
@@ -52,6 +67,7 @@ struct ReplyEntry {
 #[serde(untagged)]
 enum ReportedDifference {
     Answer(WrongEntry),
+    Recorded(RecordedEntry),
     Reply(ReplyEntry),
 }
 
@@ -122,22 +138,48 @@ fn name_entry(
     }
 }
 
+/// An event that was not answered as stated, with the name of its message, where there are names, and its rule or time.
+fn wrong_entry(
+    alloc: Global,
+    one: &WrongAnswer,
+    wording: Wording,
+    name: Option<Option<String>>,
+    rule: Option<String>,
+) -> Result<ReportedDifference, AllocError> {
+    let expected = answer_told(alloc, one.expected.as_slice())?;
+    let came = answer_told(alloc, one.came.as_slice())?;
+    Ok(match wording {
+        Wording::Test => ReportedDifference::Answer(WrongEntry {
+            line: one.line,
+            name,
+            rule,
+            expected,
+            came,
+        }),
+        Wording::Recording => ReportedDifference::Recorded(RecordedEntry {
+            line: one.line,
+            name,
+            time: rule,
+            fault: slot_fault(one.expected.as_slice(), one.came.as_slice()),
+            recorded: expected,
+            sends: came,
+        }),
+    })
+}
+
 /// Each event that was not answered as stated.
 fn wrong_lines(
     alloc: Global,
     wrong: &[WrongAnswer],
+    wording: Wording,
     names: &Option<AnswerNames>,
     rules: &AnswerNames,
 ) -> Result<Vec<ReportedDifference>, AllocError> {
     let mut lines = Vec::new(alloc);
     for (index, one) in wrong.iter().enumerate() {
-        lines.push(ReportedDifference::Answer(WrongEntry {
-            line: one.line,
-            name: name_entry(alloc, names, index)?,
-            rule: owned(alloc, rules.at(index))?,
-            expected: answer_told(alloc, one.expected.as_slice())?,
-            came: answer_told(alloc, one.came.as_slice())?,
-        }))?;
+        let name = name_entry(alloc, names, index)?;
+        let rule = owned(alloc, rules.at(index))?;
+        lines.push(wrong_entry(alloc, one, wording, name, rule)?)?;
     }
     Ok(lines)
 }
@@ -181,10 +223,11 @@ fn differences_of(
     match outcome {
         ScriptOutcome::Played {
             wrong,
+            wording,
             names,
             rules,
             ..
-        } => wrong_lines(alloc, wrong.as_slice(), names, rules),
+        } => wrong_lines(alloc, wrong.as_slice(), *wording, names, rules),
         ScriptOutcome::Judged(unit) => reply_lines(alloc, unit),
         ScriptOutcome::NotPlayed(_) => Ok(Vec::new(alloc)),
     }

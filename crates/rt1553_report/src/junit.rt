@@ -5,7 +5,7 @@ ghost use Rattle.rt1553_report.specs.Junit.{AreNamesProperties, AreSuiteProperti
 
 use crate::head::{FileDigests, NamesTable, ReportHead, push_digest};
 use crate::result::{AnswerNames, ScriptOutcome, ScriptResult, Totals, name_at, totals_of};
-use crate::told::{difference_told, push_markup, push_shown};
+use crate::told::{Wording, difference_told, push_markup, push_shown};
 use crate::unit::{ReplyDifference, UnitVerdict};
 use drawing_boxes::push_escaped;
 use rt1553_verify::{NumberRange, WrongAnswer};
@@ -165,6 +165,7 @@ fn push_wrong(
     text: &mut String,
     file: &str,
     wrong: &[WrongAnswer],
+    wording: Wording,
     names: &Option<AnswerNames>,
     rules: &AnswerNames,
 ) -> Result<(), AllocError> {
@@ -173,7 +174,7 @@ fn push_wrong(
         write!(text, ":{}: ", one.line)?;
         push_escaped(
             text,
-            difference_told(alloc, one, name_at(names, index))?.as_str(),
+            difference_told(alloc, one, wording, name_at(names, index))?.as_str(),
         )?;
         if let Some(rule) = rules.at(index) {
             text.push_str(" # ")?;
@@ -251,6 +252,7 @@ fn push_outcome(alloc: Global, text: &mut String, of: &ScriptResult) -> Result<(
         ScriptOutcome::Judged(unit) => push_unit(alloc, text, of.file.as_str(), unit),
         ScriptOutcome::Played {
             wrong,
+            wording,
             names,
             rules,
             ..
@@ -264,6 +266,7 @@ fn push_outcome(alloc: Global, text: &mut String, of: &ScriptResult) -> Result<(
                 text,
                 of.file.as_str(),
                 wrong.as_slice(),
+                *wording,
                 names,
                 rules,
             )?;

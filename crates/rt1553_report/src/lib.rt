@@ -15,6 +15,6 @@ pub use head::{FileDigests, NamesTable, ReportHead, digest_text, push_digest};
 pub use json::result_json;
 pub use junit::{junit_report, junit_suite, push_digest_property, push_property};
 pub use result::{AnswerNames, ScriptOutcome, ScriptResult, Totals, name_at, totals_of};
-pub use told::{answer_told, difference_told, push_markup, push_shown};
+pub use told::{Wording, answer_told, difference_told, push_markup, push_shown, slot_fault};
 pub use unit::{ReplyDifference, UnitVerdict};
 pub use verdict::{ScriptVerdict, Unjudged, is_unjudged, result_word, verdict_passes};

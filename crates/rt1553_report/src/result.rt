@@ -3,6 +3,7 @@ ghost use Rattle.std.specs.Prelude.{◌≡◌, length, filter, option_map};
 ghost use Rattle.rt1553_report.specs.Results.{outcome_answers, outcome_fault, outcome_passes, outcome_fails, outcome_is_missing, outcome_is_unjudged, outcome_unit, outcome_verdict, totals_of};
 
 use crate::head::FileDigests;
+use crate::told::Wording;
 use crate::unit::UnitVerdict;
 use crate::verdict::{ScriptVerdict, Unjudged, is_unjudged, verdict_fails, verdict_passes};
 use rt1553_verify::WrongAnswer;
@@ -40,11 +41,12 @@ pub enum ScriptOutcome {
         answers: usize,
         /// Why nothing of it is judged, where nothing differs.
         unjudged: Option<Unjudged>,
-        /// Each event that was not answered as stated.
+        /// Each event that was not answered as stated, and in which words that is told.
         wrong: Vec<WrongAnswer>,
+        wording: Wording,
         /// The name of the message of each of these events, where there are names.
         names: Option<AnswerNames>,
-        /// The rule under which each of these events stands: the text of the last comment before it.
+        /// The rule under which each of these events stands, or its time in a recording: the text of the last comment before it.
         rules: AnswerNames,
         /// The messages in which these events stand, drawn for a page: empty where there is nothing to draw, and None where there is too much.
         drawing: Option<String>,

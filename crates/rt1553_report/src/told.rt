@@ -1,8 +1,9 @@
 //! How differences are told, and names.
-ghost use Rattle.std.specs.Prelude.{ℕ, List, OnOk};
+ghost use Rattle.std.specs.Prelude.{◌≡◌, ℕ, List, OnOk, option_map};
 ghost use Rattle.std.specs.String.{string_bytes};
 ghost use Rattle.rt1553_report.specs.Shown.{StandsFor};
 ghost use Rattle.rt1553_report.specs.Pieces.{AddsPiece};
+ghost use Rattle.rt1553_report.specs.Recorded.{is_status_line, slot_fault};
 
 use drawing_boxes::push_escaped;
 use message_names::quoted;
@@ -27,11 +28,69 @@ fn push_answer(alloc: Global, text: &mut String, answer: &[u8]) -> Result<(), Al
     }
 }
 
-/// What follows the number of the line in which an event is not answered as stated: the name of its message, if it has one, what was
-/// expected, and what came. One line.
+/// In which words a difference is told.
+#[derive(Clone, Copy, Debug, PartialEq, Eq)]
+pub enum Wording {
+    /// A test expects an answer, and another came.
+    Test,
+    /// A word, or none, was recorded of a unit, and the terminal sends another.
+    Recording,
+}
+
+/// Whether a line of a transcript is that of a status word, as `A s 2800`, or of a data word; None for no line.
+fn is_status_line(line: &[u8]) -> Option<bool>
+    ensures { result ≡ is_status_line line.now }
+{
+    match line {
+        [_, _, kind, ..] => Some(*kind == b's'),
+        _ => None,
+    }
+}
+
+/// What is wrong with a unit that sent one word, or none, where the terminal sends another, or none. Each is a line of a transcript, or
+/// empty.
+pub fn slot_fault(recorded: &[u8], sent: &[u8]) -> &'static str
+    ensures { result.now ≡ slot_fault (is_status_line recorded.now) (is_status_line sent.now) }
+{
+    match (is_status_line(recorded), is_status_line(sent)) {
+        (None, Some(true)) => "no reply",
+        (None, _) => "the reply is too short",
+        (Some(true), None) => "no reply is due",
+        (Some(false), None) => "the reply is too long",
+        (Some(true), Some(true)) => "another status word",
+        (Some(true), Some(false)) => "a status word in place of a data word",
+        (Some(false), Some(true)) => "a data word in place of a status word",
+        (Some(false), Some(false)) => "another data word",
+    }
+}
+
+/// Writes what was expected and what came, or what is wrong with a unit, what was recorded of it, and what the terminal sends.
+fn push_difference(
+    alloc: Global,
+    text: &mut String,
+    wrong: &WrongAnswer,
+    wording: Wording,
+) -> Result<(), AllocError> {
+    let (expected, came) = (wrong.expected.as_slice(), wrong.came.as_slice());
+    let (front, between) = match wording {
+        Wording::Test => ("expected ", ", came "),
+        Wording::Recording => {
+            text.push_str(slot_fault(expected, came))?;
+            (": recorded ", "; the terminal sends ")
+        }
+    };
+    text.push_str(front)?;
+    push_answer(alloc, text, expected)?;
+    text.push_str(between)?;
+    push_answer(alloc, text, came)
+}
+
+/// What follows the number of the line in which an event is not answered as stated: the name of its message, if it has one, and what
+/// differs. One line.
 pub fn difference_told(
     alloc: Global,
     wrong: &WrongAnswer,
+    wording: Wording,
     name: Option<&str>,
 ) -> Result<String, AllocError> {
     let mut text = String::new(alloc);
@@ -39,10 +98,7 @@ pub fn difference_told(
         text.push_str(quoted(alloc, name)?.as_str())?;
         text.push_str(": ")?;
     }
-    text.push_str("expected ")?;
-    push_answer(alloc, &mut text, wrong.expected.as_slice())?;
-    text.push_str(", came ")?;
-    push_answer(alloc, &mut text, wrong.came.as_slice())?;
+    push_difference(alloc, &mut text, wrong, wording)?;
     Ok(text)
 }
 

@@ -55,6 +55,11 @@ test_kind on_bus = if on_bus then BusTest else Test
 abbrev pub recording_kind : Bool → ScriptKind
 recording_kind later = if later then LaterRecording else Recording
 
+abbrev pub is_recording : ScriptKind → Bool
+is_recording Recording = true
+is_recording LaterRecording = true
+is_recording _ = false
+
 abbrev pub is_later : ScriptKind → Bool
 is_later LaterRecording = true
 is_later _ = false

@@ -115,6 +115,7 @@ fn outcome_of_script<R: AllocGlobal + Eprint, F: Read + Drop>(
         answers: it.answers,
         unjudged: it.unjudged,
         wrong: wrong_in_file(rt.alloc(), script, it.wrong)?,
+        wording: it.wording,
         names: it.names,
         rules: it.rules,
         drawing,

@@ -1,9 +1,9 @@
 //! The command `verify`: scripts that state their answers are played.
-ghost use Rattle.std.specs.Prelude.{◌≡◌, ◌⊎◌, ◌≤◌, ◌==◌, None, IfOk, length};
+ghost use Rattle.std.specs.Prelude.{◌≡◌, ◌↔◌, ◌⊎◌, ◌≤◌, ◌==◌, None, IfOk, length, true};
 ghost use Rattle.rt1553_report.specs.Verdict.{verdict_of};
 ghost use Rattle.tool_files.specs.Loaded.{IsLoadedFile};
 ghost use Rattle.tool_files.specs.Status.{tool_status};
-ghost use Rattle.tool_verify.specs.Passing.{IsGraver, IsPlayedTo, SaysOf, recording_status, script_status};
+ghost use Rattle.tool_verify.specs.Passing.{IsGraver, IsPlayedTo, SaysOf, is_recording, recording_status, script_status};
 
 use crate::compared::{Compared, ScriptFault, compare_open, explaining_script};
 use crate::head::loaded_names;
@@ -16,7 +16,8 @@ use line_format::after;
 use message_names::{MessageNames, owned};
 use rt1553_files::escaped;
 use rt1553_report::{
-    AnswerNames, ScriptVerdict, TriedScript, Unjudged, clauses_in, difference_told, name_at,
+    AnswerNames, ScriptVerdict, TriedScript, Unjudged, Wording, clauses_in, difference_told,
+    name_at,
 };
 use rt1553_tool_args::{AskedReport, AskedWitness, Profiles, ReportFormat, ScriptKind};
 use rt1553_verify::{WrongAnswer, named};
@@ -145,18 +146,33 @@ impl Played<'_> {
     }
 }
 
-/// Writes where a file differs.
+/// In which words differences of such scripts are told.
+fn wording_of(kind: ScriptKind) -> Wording
+    ensures { (result ≡ Wording.Recording) ↔ (is_recording kind ≡ true) }
+{
+    match kind {
+        ScriptKind::Test | ScriptKind::BusTest => Wording::Test,
+        ScriptKind::Recording | ScriptKind::LaterRecording => Wording::Recording,
+    }
+}
+
+/// Writes where a file differs; in a recording also the last comment before it, which is its time.
 fn put_wrong_answer<W: Write>(
     alloc: Global,
     output: &mut W,
-    name: &str,
-    line: u64,
+    place: &str,
+    it: &PlayedScript,
+    index: usize,
     wrong: &WrongAnswer,
-    message: Option<&str>,
 ) -> Result<(), ToolFault> {
-    let told = difference_told(alloc, wrong, message)?;
+    let told = difference_told(alloc, wrong, it.wording, name_at(&it.names, index))?;
     let told = told.as_str();
-    let text = format!(in alloc; "{name}:{line}: {told}\n")?;
+    let text = match it.rules.at(index) {
+        Some(time) if it.wording == Wording::Recording => {
+            format!(in alloc; "{place}: {told} # {time}\n")?
+        }
+        _ => format!(in alloc; "{place}: {told}\n")?,
+    };
     write_bytes(output, text.as_str().as_bytes())
 }
 
@@ -232,9 +248,11 @@ pub struct PlayedScript {
     /// Why nothing of it is judged, where nothing differs.
     pub unjudged: Option<Unjudged>,
     pub wrong: Vec<WrongAnswer>,
+    /// In which words that is told.
+    pub wording: Wording,
     /// The names of the messages of these events, where there are names.
     pub names: Option<AnswerNames>,
-    /// The rules under which these events stand.
+    /// The rules under which these events stand, or their times in a recording.
     pub rules: AnswerNames,
 }
 
@@ -345,10 +363,8 @@ pub fn play_script<R: AllocGlobal + Eprint, F: Read + Drop>(
                 played.message_names(),
                 compared.commands.as_slice(),
             )?;
-            if matches!(
-                played.kind,
-                ScriptKind::Recording | ScriptKind::LaterRecording
-            ) {
+            let wording = wording_of(played.kind);
+            if wording == Wording::Recording {
                 warn_of_hand_overs(rt, name, text)?;
             }
             tell_judged(rt, name, script, &compared)?;
@@ -357,6 +373,7 @@ pub fn play_script<R: AllocGlobal + Eprint, F: Read + Drop>(
                 answers: compared.answers,
                 unjudged: compared.unjudged,
                 wrong: compared.wrong,
+                wording,
                 names,
                 rules,
             })
@@ -383,8 +400,8 @@ fn tell_script<R: Files + AllocGlobal + Eprint, W: Write>(
     let name = shown(rt, name)?;
     for (index, wrong) in it.wrong.as_slice().iter().enumerate() {
         let line = script.line_in_file(wrong.line);
-        let message = name_at(&it.names, index);
-        put_wrong_answer(rt.alloc(), output, name.as_str(), line, wrong, message)?;
+        let place = format!(in rt.alloc(); "{name}:{line}")?;
+        put_wrong_answer(rt.alloc(), output, place.as_str(), &it, index, wrong)?;
     }
     put_verdict(rt.alloc(), output, name.as_str(), &it, report)?;
     Ok(it.verdict())
