@@ -30,10 +30,11 @@ pub fn begin_beside(bus: Bus, row: &WordRow) -> Option<u64>
 pub fn comes_first(listening: &Listening, row: &WordRow, held: &WordRow) -> bool
     ensures { result ≡ comes_first listening.now row.now held.now }
 {
+    let time = listening.row_time(row);
     !same_bus(row.bus, held.bus)
         && listening.is_own_row(row)
         && !listening.is_own_row(held)
-        && !is_before_end(listening.row_time(held), Some(listening.row_time(row)))
+        && !is_before_end(listening.row_time(held), Some(time))
 }
 
 impl Hearing {
