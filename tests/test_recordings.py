@@ -185,6 +185,17 @@ def unjudged(recording):
     return "the script states no answer" if recording else "the script has no event"
 
 
+def slot_fault(recorded, sent):
+    """What is wrong with a unit that sent one word, or none, where the terminal sends another, or none."""
+    words = {"status": "a status word", "data": "a data word"}
+    if recorded and sent:
+        is_same = recorded[0] == sent[0]
+        return f"another {sent[0]} word" if is_same else f"{words[recorded[0]]} in place of {words[sent[0]]}"
+    if recorded:
+        return "no reply is due" if recorded[0] == "status" else "the reply is too long"
+    return "no reply" if sent[0] == "status" else "the reply is too short"
+
+
 def check_told(explains, recording, name, numbers, told, why):
     """This is what is to be told of a recording, of which so many sightings are explained as `explains` says."""
     count = explains(recording)
@@ -192,9 +203,10 @@ def check_told(explains, recording, name, numbers, told, why):
         assert told == ([f"{name}: not judged: {why}"] if why else [])
         return
     event, sent = recording[count]
-    found = re.fullmatch("(.*), came (.*)", told[0]) if told else None
-    assert found and [found[1], *told[1:]] == [f"{name}:{numbers[count]}: expected {stated(sent)}", f"{name}: differences: 1"], told
-    assert explains([*recording[:count], (event, sent_of(found[2]))]) == count + 1, f"{name}: this can't come: {found[2]}"
+    found = re.fullmatch("(.*?): ([^:]*): recorded (.*); the terminal sends (.*)", told[0]) if told else None
+    assert found and [found[1], found[3], *told[1:]] == [f"{name}:{numbers[count]}", stated(sent), f"{name}: differences: 1"], told
+    assert explains([*recording[:count], (event, sent_of(found[4]))]) == count + 1, f"{name}: this can't come: {found[4]}"
+    assert found[2] == slot_fault(sent, sent_of(found[4])), told
 
 
 def verified(tool, folder, names, *options):

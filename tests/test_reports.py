@@ -267,6 +267,26 @@ def test_digest_of_messages(tool, shown, tmp_path):
     assert reports.objects_of(given.output.decode())[0]["sha256"] is None
 
 
+RECORDED = "# 100.0\nA c 2c02\nA gap\n# 126.0\nslot\n#> A s 2800\n# 1000.0\nA c 2c02\nA gap\nslot\n"
+TOLD = "unit:10: no reply: recorded nothing; the terminal sends A s 2800 # 1000.0\n"
+
+
+def test_difference_of_a_recording(tool, tmp_path):
+    """What was recorded, what the terminal sends, what is wrong, and the time: in each format."""
+    write_files(tmp_path, {**FIVE, "unit": RECORDED})
+    told = {form: run(tool, "verify", "--any-subsystem", "--format", form, "five", "unit", folder=tmp_path) for form in ("text", *FORMATS)}
+    assert {form: it.status for form, it in told.items()} == dict.fromkeys(told, 1)
+    text = {form: it.output.decode() for form, it in told.items()}
+    assert text["text"] == f"{TOLD}unit: differences: 1\n"
+    (one,) = reports.objects_of(text["json"])
+    assert reports.misfits(one, "docs/verify.schema.json") == []
+    assert one["differences"] == [{"line": 10, "time": "1000.0", "fault": "no reply", "recorded": None, "sends": "A s 2800"}]
+    assert f'<failure message="differences: 1">{TOLD}</failure>' in text["junit"]
+    tables = reports.body_of(text["html"]).findall(f"{reports.HTML}table")
+    rows = [["line", "time", "fault", "recorded", "the terminal sends"], ["10", "1000.0", "no reply", "nothing", "A s 2800"]]
+    assert rows in [reports.rows_in(it) for it in tables]
+
+
 LINES = "# a recording\n" + "slot\n" * 400_000
 LONG_RECORDINGS = {
     "passes": LINES + GOOD, "differs at its begin": "A c 2c02\nA gap\nslot\n#> A s 2c00\n" + LINES,
