@@ -134,6 +134,7 @@ message_last setup row = record {
   commands_end = commands_end row;
   words_end = words_end row;
   end = latest_end setup row;
+  is_asked = is_asked setup.address row;
   is_awaiting = is_awaiting setup.address row;
   sent_no_status = sent_no_status setup.address row;
   ends_in_reply = ends_in_reply setup.address row;
@@ -189,6 +190,15 @@ abbrev pub begins_within : MessageTimes → MessageRow → Bool
 begins_within times row =
     is_before_end row.time.nanos (words_of_last (last_message times row.bus))
     || is_heard_before row (commands_of_last (last_message times (other row.bus)))
+
+-- The order of the first command of a message and of the commands of the last one on the other bus decides, and times don't tell it: it ends no
+-- later than 1 microsecond behind these, and both messages are to the terminal.
+abbrev pub has_unclear_begin_with : ℕ → MessageRow → Option LastMessage → Bool
+has_unclear_begin_with address row None = false
+has_unclear_begin_with address row (Some m) = (m.is_asked && is_asked address row) && not (is_before_end m.commands_end (Some (word_end row.time.nanos)))
+
+abbrev pub has_unclear_begin : MessageTimes → MessageRow → Bool
+has_unclear_begin times row = has_unclear_begin_with times.setup.address row (last_message times (other row.bus))
 
 -- ---- silences
 

@@ -22,7 +22,7 @@ use Rattle.monitor_cells.specs.declared.heard.HeardItem.{HeardItem}
 use Rattle.monitor_tables.specs.declared.recording.MonitorTable.{MonitorTable}
 use Rattle.monitor_cells.specs.declared.setup.RecordingSetup.{RecordingSetup}
 use Rattle.monitor_cells.specs.declared.silence.Silence.{Silence}
-use Rattle.monitor_tables.specs.Messages.{message_heard, no_messages, begins_within, silence_between, late_gap, silence_behind, message_known}
+use Rattle.monitor_tables.specs.Messages.{message_heard, no_messages, begins_within, has_unclear_begin, silence_between, late_gap, silence_behind, message_known}
 use Rattle.monitor_tables.specs.declared.fault.EarlyEnd.{EarlyEnd}
 use Rattle.monitor_tables.specs.declared.fault.EarlyEnd.TheVariants.{Refused, Write}
 use Rattle.monitor_tables.specs.declared.records.TableRecords.{TableRecords}
@@ -195,9 +195,9 @@ messages_noted times (row ∷ rows) = message_noted times row ++ messages_noted 
 abbrev pub all_messages_noted : RecordingSetup → List MessageRow → List HeardAt
 all_messages_noted setup rows = messages_noted (no_messages setup) rows ++ silence_noted (silence_behind (messages_known (no_messages setup) rows))
 
--- a message begins neither before the one above it, nor within one above it (`begins_within`)
+-- a message begins neither before the one above it, nor within one above it (`begins_within`), and their order is clear
 abbrev pub ComesBehind : MessageTimes → MessageRow → Type 0
-ComesBehind times row = (times.begin ≤ row.time.nanos) × (begins_within times row ≡ false)
+ComesBehind times row = (times.begin ≤ row.time.nanos) × (begins_within times row ≡ false) × (has_unclear_begin times row ≡ false)
 
 -- so does each of these
 abbrev pub ComeBehind : MessageTimes → List MessageRow → Type 0

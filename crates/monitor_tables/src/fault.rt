@@ -37,7 +37,7 @@ pub enum MonitorFault {
     #[error("table: {0}: earlier than the row above")]
     Order(CellPlace),
     /// A word ends within 1 microsecond of one on the other bus, both are of messages to the terminal, and one is a command.
-    #[error("table: {0}: this word and one above, on the other bus, end within 1 microsecond, and what the terminal does depends on their order")]
+    #[error("table: {0}: a word of this row and one above, on the other bus, end within 1 microsecond, and what the terminal does depends on their order")]
     UnclearOrder(CellPlace),
     /// A message begins before the words of the message above it on its bus have ended, or between the commands of the one on the other.
     #[error("table: {0}: the words of the message above on this bus, 20 microseconds each, have not ended, or the second command on the other")]

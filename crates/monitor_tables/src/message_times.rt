@@ -1,6 +1,6 @@
 //! Messages by their times: what is heard of the silences between them.
 ghost use Rattle.std.specs.Prelude.{◌≡◌, ◌-◌, ◌^◌, min};
-ghost use Rattle.monitor_tables.specs.Messages.{is_meant_command, is_own_status, first_or_second, field_words, message_words, message_replies, commands_end, latest_end, words_end, is_awaiting, is_asked, sent_no_status, ends_in_reply, message_last, no_messages, last_message, last_after, message_known, words_of_last, end_of_last, commands_of_last, is_heard_before, begins_within, is_above, gap_at_latest, has_surely_ended, went_on, may_go_on, may_have_ended, gap_between, late_gap, is_pause_between, heard_above, silent_until, is_long_over, is_followed, has_slot_behind, has_slot_between, has_given_up, may_have_given_up, second_between, maybe_between, silence_between, silence_behind};
+ghost use Rattle.monitor_tables.specs.Messages.{is_meant_command, is_own_status, first_or_second, field_words, message_words, message_replies, commands_end, latest_end, words_end, is_awaiting, is_asked, sent_no_status, ends_in_reply, message_last, no_messages, last_message, last_after, message_known, words_of_last, end_of_last, commands_of_last, is_heard_before, begins_within, has_unclear_begin, is_above, gap_at_latest, has_surely_ended, went_on, may_go_on, may_have_ended, gap_between, late_gap, is_pause_between, heard_above, silent_until, is_long_over, is_followed, has_slot_behind, has_slot_between, has_given_up, may_have_given_up, second_between, maybe_between, silence_between, silence_behind};
 
 use crate::messages::{MessageRow, is_own_status};
 use bus_word::Bus;
@@ -22,6 +22,8 @@ pub struct LastMessage {
     words_end: u64,
     /// When it has ended at the latest.
     end: u64,
+    /// Whether a command of it is for the terminal, or for all.
+    is_asked: bool,
     /// Whether the terminal waits for the status word of another.
     is_awaiting: bool,
     /// Whether the terminal sent no status word, though a command is for it.
@@ -152,6 +154,7 @@ fn message_last(setup: &RecordingSetup, row: &MessageRow) -> LastMessage
         commands_end: commands_end(row),
         words_end: words_end(row),
         end: latest_end(setup, row),
+        is_asked: is_asked(setup.address, row),
         is_awaiting: is_awaiting(setup.address, row),
         sent_no_status: sent_no_status(setup.address, row),
         ends_in_reply: ends_in_reply(setup.address, row),
@@ -265,6 +268,20 @@ impl MessageTimes {
                 row,
                 commands_of_last(&self.last_message(other_bus(row.bus))),
             )
+    }
+
+    /// Whether the order of its first command and of the commands of the last message on the other bus decides, and times don't tell it.
+    pub fn has_unclear_begin(&self, row: &MessageRow) -> bool
+        ensures { result ≡ has_unclear_begin self.now row.now }
+    {
+        match self.last_message(other_bus(row.bus)) {
+            Some(message) => {
+                message.is_asked
+                    && is_asked(self.setup.address, row)
+                    && !is_before_end(message.commands_end, Some(word_end(row.time.nanos)))
+            }
+            None => false,
+        }
     }
 
     /// Whether a pause is heard before a message that begins at this time.

@@ -285,6 +285,9 @@ fn next_message<R: Read + Drop>(
     if times.begins_within(&row) {
         return Err(MonitorFault::Within(records.place(columns.time)));
     }
+    if times.has_unclear_begin(&row) {
+        return Err(MonitorFault::UnclearOrder(records.place(columns.time)));
+    }
     let heard = row.heard(alloc, times.setup.address)?;
     Ok(Some(NextMessage { row, heard }))
 }

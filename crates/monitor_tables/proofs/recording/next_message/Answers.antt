@@ -11,6 +11,6 @@ returns g c = (
   fields_of c.next.new.self.row,
   c.in_ok-row.ensures,
   next-told _ _ _ c.if-not-branch.false c.in_ok-next.ensures.reads,
-  (omega (arith, c.if-row-times.false), sym c.begins_within.ensures ∙ c.if-begins_within.false),
+  (omega (arith, c.if-row-times.false), sym c.begins_within.ensures ∙ c.if-begins_within.false, sym c.has_unclear_begin.ensures ∙ c.if-has_unclear_begin.false),
   c.in_ok-heard.ensures,
 )
