@@ -135,6 +135,7 @@ begins_following is_legal P h w way one at empty none = record {
     goes = subst (AllByRecursion (Goes is_legal P h [])) (sym one) ((h, at, record { events = []; proper = tt; history = refl; reading = []; reads = refl; fits = tt }), tt);
     some = λ e. let wrong : way ∷ [] ≡ [] = sym one ∙ e in cc;
     few = omega (arith, ap length one);
+    most = omega (arith, ap length one);
   };
   goes_on = λ more is x. subst (λ l. AnyCanGoOn is_legal P more l) (sym one) (inl (h, at, x));
   none = ap (λ l. next_status (seen_in l)) empty;

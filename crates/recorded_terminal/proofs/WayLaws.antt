@@ -38,7 +38,7 @@ use Rattle.recorded_terminal.specs.declared.way.Way.{Way}
 use Rattle.recorded_terminal.specs.SentWords.{word_shown}
 use Rattle.recorded_terminal.specs.Sightings.{shown_sighting}
 use Rattle.recorded_terminal.specs.Follows.{told_by, AreTold}
-use Rattle.recorded_terminal.specs.Marks.{masked, maybe, maybe_of, maybe_in, IsMaybeGapOn, IsSeen}
+use Rattle.recorded_terminal.specs.Marks.{masked, maybe, maybe_of, maybe_in, most_ways, IsMaybeGapOn, IsSeen}
 use Rattle.recorded_terminal.specs.Ways.{AnyOf, AreQuiet, quiet_with, WayIsAt, told_then, WaySees, EachSees, WayTakesGap, WaysHaveMet, IsWay, Goes, CanGoOn, AnyCanGoOn, AreWays, masked_with}
 use Rattle.recorded_terminal.specs.inner.Kept.{KeepTheSame, IsIdleAt}
 use Rattle.recorded_terminal.specs.inner.Steps.{Keeps, SentFirst, LeftOf, AreToldNext, Splits, StepsTo, LeavesNone}
@@ -277,7 +277,12 @@ each_few is_legal m status (w ∷ ws) (v ∷ vs) sees = ap suc (each_few is_lega
 pub steps_seen : {L : Type 0} (is_legal : L → Cell → Bool) (P : Description) (h : List Event) (ms : List Marked) (m : Marked) (status : Option ℕ) (ws vs us : List (Way L)) → P.address ≤ 30 → IsSeen m → AreWays is_legal P h ms ws →
     EachSees is_legal status m ws vs → LeftOf is_legal vs us → (us ≡ [] → ⊥) → StepsTo is_legal P h ms m status ws us
 steps_seen is_legal P h ms m status ws vs us low is ways sees left some = record {
-  ways = record { goes = left.goes P h (ms ++ m ∷ []) (each_goes is_legal P h ms m status ws vs is sees ways.goes); some = some; few = omega (arith, left.few, ways.few, each_few is_legal m status ws vs sees, room_seen ms m is) };
+  ways = record {
+    goes = left.goes P h (ms ++ m ∷ []) (each_goes is_legal P h ms m status ws vs is sees ways.goes);
+    some = some;
+    few = omega (arith, left.few, ways.few, each_few is_legal m status ws vs sees, room_seen ms m is);
+    most = omega (arith, left.few, ways.most, each_few is_legal m status ws vs sees);
+  };
   goes_on = λ more later n x. left.goes_on P more (each_on is_legal P low m status more later ws vs is sees n x);
 }
 
@@ -338,30 +343,34 @@ all_left {L = L} is_legal ws all = record {
 
 -- where all that is kept is kept, and what a way explains is explained
 kept_goes : {L : Type 0} (is_legal : L → Cell → Bool) (F : Way L → Type 0) (olds : List (Way L)) (w : Way L) (news : List (Way L)) → Keeps is_legal olds w news → AllByRecursion F olds → F w → AllByRecursion F news
-kept_goes {L = L} is_legal F olds w news (inl e) a f = subst (λ (l : List (Way L)). AllByRecursion F l) (sym e) (all_join F olds (w ∷ []) a (f, tt))
+kept_goes {L = L} is_legal F olds w news (inl (e, room)) a f = subst (λ (l : List (Way L)). AllByRecursion F l) (sym e) (all_join F olds (w ∷ []) a (f, tt))
 kept_goes {L = L} is_legal F olds w news (inr k) a f = subst (λ (l : List (Way L)). AllByRecursion F l) (sym k.0) a
 
 kept_on : {L : Type 0} (is_legal : L → Cell → Bool) (F : Way L → Type 0) (olds : List (Way L)) (w : Way L) (news : List (Way L)) → Keeps is_legal olds w news → AnyOf F olds → AnyOf F news
-kept_on {L = L} is_legal F olds w news (inl e) x = subst (λ (l : List (Way L)). AnyOf F l) (sym e) (any_first F olds (w ∷ []) x)
+kept_on {L = L} is_legal F olds w news (inl (e, room)) x = subst (λ (l : List (Way L)). AnyOf F l) (sym e) (any_first F olds (w ∷ []) x)
 kept_on {L = L} is_legal F olds w news (inr k) x = subst (λ (l : List (Way L)). AnyOf F l) (sym k.0) x
 
 meets_on : {L : Type 0} (is_legal : L → Cell → Bool) (P : Description) (h : List Event) (ms : List Marked) (more : List MaybeSighting) (olds : List (Way L)) (w : Way L) (news : List (Way L)) → P.address ≤ 30 → IsMaybeRecording more → Keeps is_legal olds w news →
     AllByRecursion (Goes is_legal P h ms) olds → CanGoOn is_legal P more w → AnyCanGoOn is_legal P more news
-meets_on {L = L} is_legal P h ms more olds w news low is (inl e) goes x = subst (λ (l : List (Way L)). AnyCanGoOn is_legal P more l) (sym e) (any_last (CanGoOn is_legal P more) olds (w ∷ []) (inl x))
+meets_on {L = L} is_legal P h ms more olds w news low is (inl (e, room)) goes x = subst (λ (l : List (Way L)). AnyCanGoOn is_legal P more l) (sym e) (any_last (CanGoOn is_legal P more) olds (w ∷ []) (inl x))
 meets_on {L = L} is_legal P h ms more olds w news low is (inr k) goes x =
     subst (λ (l : List (Way L)). AnyCanGoOn is_legal P more l) (sym k.0)
     (any_both (WaysHaveMet is_legal w) (Goes is_legal P h ms) (CanGoOn is_legal P more) olds
     (λ v met g. (g.0, g.1, maybe_law.met P x.0 g.0 more low is (met P x.0 g.0 x.1 g.1) x.2)) k.1 goes)
 
 keeps_some : {L : Type 0} (is_legal : L → Cell → Bool) (olds : List (Way L)) (w : Way L) (news : List (Way L)) → Keeps is_legal olds w news → news ≡ [] → ⊥
-keeps_some is_legal [] w news (inl e) none = let wrong : w ∷ [] ≡ [] = sym e ∙ none in cc
-keeps_some is_legal (v ∷ olds) w news (inl e) none = let wrong : v ∷ (olds ++ w ∷ []) ≡ [] = sym e ∙ none in cc
+keeps_some is_legal [] w news (inl (e, room)) none = let wrong : w ∷ [] ≡ [] = sym e ∙ none in cc
+keeps_some is_legal (v ∷ olds) w news (inl (e, room)) none = let wrong : v ∷ (olds ++ w ∷ []) ≡ [] = sym e ∙ none in cc
 keeps_some is_legal [] w news (inr k) none = k.1
 keeps_some is_legal (v ∷ olds) w news (inr k) none = let wrong : v ∷ olds ≡ [] = sym k.0 ∙ none in cc
 
 pub kept_few : {L : Type 0} (is_legal : L → Cell → Bool) (olds : List (Way L)) (w : Way L) (news : List (Way L)) → Keeps is_legal olds w news → length news ≤ suc (length olds)
-kept_few is_legal olds w news (inl e) = omega (arith, ap length e, one_longer olds w)
+kept_few is_legal olds w news (inl (e, room)) = omega (arith, ap length e, one_longer olds w)
 kept_few is_legal olds w news (inr k) = omega (arith, ap length k.0)
+
+kept_most : {L : Type 0} (is_legal : L → Cell → Bool) (olds : List (Way L)) (w : Way L) (news : List (Way L)) → Keeps is_legal olds w news → length olds ≤ most_ways → length news ≤ most_ways
+kept_most is_legal olds w news (inl (e, room)) most = omega (arith, ap length e, one_longer olds w)
+kept_most is_legal olds w news (inr k) most = omega (arith, ap length k.0)
 
 -- a way on which the gap would do nothing
 pub split_passes : {L : Type 0} (is_legal : L → Cell → Bool) (b : Bus) (status : Option ℕ) (olds all news : List (Way L)) (w c : Way L) → Splits is_legal b status olds all → ((P : Description) (h : List Event) → WayIsAt is_legal P h w → gap_does_nothing P h b ≡ true) →
@@ -381,6 +390,7 @@ split_passes is_legal b status olds all news w c s passes copies keeps = record 
       ];
   some = λ s. keeps_some is_legal all c news keeps;
   few = omega (arith, s.few, one_longer olds w, kept_few is_legal all c news keeps);
+  most = λ most. kept_most is_legal all c news keeps (s.most (omega (arith, one_longer olds w)));
 }
 
 -- and one on which it would do something
@@ -411,6 +421,7 @@ split_both is_legal b status olds all mid news w v c s takes copies first second
       ];
   some = λ s. keeps_some is_legal mid c news second;
   few = omega (arith, s.few, one_longer olds w, kept_few is_legal all v mid first, kept_few is_legal mid c news second);
+  most = λ most. kept_most is_legal mid c news second (kept_most is_legal all v mid first (s.most (omega (arith, one_longer olds w))));
 }
   where
     with_gap : (P : Description) (k : List Event) (m : Marked) (more : List MaybeSighting) (later : List Sighting) → IsMaybeGapOn b m → AreToldNext status m more later →
@@ -426,12 +437,18 @@ all_split is_legal b status ws passes = record {
       (λ w y pass. (y.0, y.1, (maybe_law.left_out P y.0 b more low n.are_more (pass P y.0 y.1)).0 y.2)) x passes;
   some = λ s. s;
   few = omega arith;
+  most = λ most. most;
 }
 
 pub steps_split : {L : Type 0} (is_legal : L → Cell → Bool) (P : Description) (h : List Event) (ms : List Marked) (m : Marked) (b : Bus) (status : Option ℕ) (ws vs : List (Way L)) → P.address ≤ 30 → IsMaybeGapOn b m → AreWays is_legal P h ms ws →
     Splits is_legal b status ws vs → StepsTo is_legal P h ms m status ws vs
 steps_split is_legal P h ms m b status ws vs low is ways s = record {
-  ways = record { goes = s.goes P h ms m is ways.goes; some = s.some ways.some; few = omega (arith, s.few, ways.few, room_open ms m b is) };
+  ways = record {
+    goes = s.goes P h ms m is ways.goes;
+    some = s.some ways.some;
+    few = omega (arith, s.few, ways.few, room_open ms m b is);
+    most = s.most ways.most;
+  };
   goes_on = λ more later n x. s.goes_on P h ms m more later low is n ways.goes (subst (λ (y : MaybeSighting). AnyCanGoOn is_legal P (y ∷ more) ws) is x);
 }
 
