@@ -39,6 +39,6 @@ many_front ms ns = many_more (maybe_in ms) (maybe_in (ms ++ ns)) (omega (arith, 
 pub many_back : (ms ns : List Marked) → HasManyWays (maybe_in ns) → HasManyWays (maybe_in (ms ++ ns))
 many_back ms ns = many_more (maybe_in ns) (maybe_in (ms ++ ns)) (omega (arith, gaps_join ms ns))
 
--- so many ways that a gap more may make too many of them
+-- ways of which a gap more may make too many
 pub many_split : (ms : List Marked) (m : Marked) (b : Bus) (n : ℕ) → IsMaybeGapOn b m → n ≤ 2 ^ maybe_gaps (maybe_in ms) → most_ways < 2 * n → HasManyWays (maybe_in (ms ++ m ∷ []))
 many_split ms m b n is few many = omega (arith, room_open ms m b is)

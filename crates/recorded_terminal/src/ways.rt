@@ -1,5 +1,5 @@
 //! All ways that a recording can have gone so far. Where a gap may have come or not, and that makes a difference, one way becomes two.
-ghost use Rattle.std.specs.Prelude.{◌≡◌, ◌≤◌, ◌<◌, ◌*◌, ◌++◌, ◌∷◌, [], ℕ, List, Option, Some, None, true, length, IfOk, IfErr, OnOk};
+ghost use Rattle.std.specs.Prelude.{◌≡◌, ◌≤◌, ◌<◌, ◌*◌, ℕ, List, Option, Some, None, true, length, IfOk, IfErr, OnOk};
 ghost use Rattle.std.specs.List.{AllByRecursion};
 ghost use Rattle.bus_word.specs.declared.word.Bus.{Bus};
 ghost use Rattle.bus_legal.specs.Description.{Description};
@@ -7,7 +7,7 @@ ghost use Rattle.terminal_rules.specs.declared.event.Event.{Event};
 ghost use Rattle.recorded_terminal.specs.SentWords.{word_shown};
 ghost use Rattle.recorded_terminal.specs.declared.watch.Marked.{Marked};
 ghost use Rattle.recorded_terminal.specs.declared.watch.WatchFault.TheVariants.{Memory, TooManyWays};
-ghost use Rattle.recorded_terminal.specs.Marks.{maybe_in, most_ways, HasManyWays, IsMaybeGapOn, IsSeen};
+ghost use Rattle.recorded_terminal.specs.Marks.{most_ways, IsMaybeGapOn, IsSeen};
 ghost use Rattle.recorded_terminal.specs.Ways.{AnyOf, AreWays, EachSees, WaysHaveMet};
 ghost use Rattle.recorded_terminal.specs.inner.Steps.{Keeps, LeftOf, SentFirst, Splits, SeesNext};
 
@@ -178,7 +178,7 @@ pub fn see<L: Legality + Copy + Drop>(
     status: Option<u16>,
 ) -> Result<Option<Instead>, WatchFault>
     ensures sees { IfOk result (λ instead. (P : Description) (h : List Event) (ms : List Marked) → P.address ≤ 30 → AreWays L.is_legal P h ms ways.old.items → SeesNext L.is_legal P h ms marked.now status ways.old.items ways.new.items instead) }
-    ensures refused { IfErr result (λ fault. fault ≡ TooManyWays → (P : Description) (h : List Event) (ms : List Marked) → AreWays L.is_legal P h ms ways.old.items → HasManyWays (maybe_in (ms ++ marked.now ∷ []))) }
+    ensures refused { IfErr result (λ fault. fault ≡ TooManyWays → ((bus : Bus) × IsMaybeGapOn bus marked.now) × (most_ways < 2 * length ways.old.items)) }
 {
     match maybe_gap(marked) {
         Some(bus) => {

@@ -4,7 +4,7 @@ use Rattle.recorded_terminal.specs.declared.watch.Marked.{Marked}
 use Rattle.recorded_terminal.specs.Marks.{maybe_in, HasManyWays}
 use Rattle.recorded_terminal.specs.inner.Followed.{AreFollowed}
 use Rattle.recorded_terminal.specs.inner.Steps.{SeesNext}
-use Rattle.recorded_terminal.proofs.GapLaws.{many_front}
+use Rattle.recorded_terminal.proofs.GapLaws.{many_front, many_split}
 use Rattle.recorded_terminal.proofs.WayLaws.{cut_of, take_more}
 use Rattle.recorded_terminal.proofs.WatchLaws.{none_followed, followed_more, ends_at}
 use Rattle.recorded_terminal.proofs.watch.follow.Goals as goal
@@ -51,6 +51,7 @@ returns-in_err-instead-clause-refused g c =
     let p = err_from_is_err_and c.from_residual.result c.from_residual.ensures.1 in
     rw (p.1, p.2) (λ same P h ms low ways.
     let front : List Marked = ms ++ take n waiting in
+    let many = c.in_err-instead.ensures.refused same in
     let whole : (front ++ m ∷ []) ++ drop (suc n) waiting ≡ ms ++ waiting =
     append_assoc front (m ∷ []) (drop (suc n) waiting) ∙ (append_assoc ms (take n waiting) (m ∷ drop (suc n) waiting) ∙ ap (λ l. ms ++ l) (ap (λ l. take n waiting ++ l) (sym cut) ∙ take-append-drop n waiting)) in
-    subst (λ l. HasManyWays (maybe_in l)) whole (many_front (front ++ m ∷ []) (drop (suc n) waiting) (c.in_err-instead.ensures.refused same P h front (c.loop-number.invariant P h ms low ways).ways)))
+    subst (λ l. HasManyWays (maybe_in l)) whole (many_front (front ++ m ∷ []) (drop (suc n) waiting) (many_split front m many.0.0 (length c.loop-number.ways.items) many.0.1 (c.loop-number.invariant P h ms low ways).ways.few many.1)))

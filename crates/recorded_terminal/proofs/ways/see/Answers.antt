@@ -2,7 +2,6 @@ use Rattle.std.proofs.Common.{◌<◌, ◌*◌, length, subst}
 use Rattle.std.proofs.lemmas.Result.{err_from_is_err_and}
 use Rattle.recorded_terminal.specs.inner.Steps.{Splits}
 use Rattle.recorded_terminal.specs.Marks.{most_ways}
-use Rattle.recorded_terminal.proofs.GapLaws.{many_split}
 use Rattle.recorded_terminal.proofs.WayLaws.{steps_split}
 use Rattle.recorded_terminal.proofs.ways.see.Goals as goal
 
@@ -24,6 +23,7 @@ returns-in_ok-see_certain-in-None-clause-sees g c P h ms low ways = c.in_ok-see_
 pub returns-in_err-ways-in-Some-clause-refused : goal.returns-in_err-ways-in-Some-clause-refused
 returns-in_err-ways-in-Some-clause-refused g c =
     let p = err_from_is_err_and c.from_residual.result c.from_residual.ensures.1 in
-    rw (p.1, p.2) (λ same P h ms ways.
-    many_split ms c.args.marked.now c.in-Some.bus (length c.args.ways.now.items) (c.maybe_gap.ensures.some c.in-Some.bus c.in-Some.is) ways.few
-    (subst (λ ws. most_ways < 2 * length ws) c.as_slice-then-not-all_pass.ensures.value (c.in_err-ways-in-Some.ensures.refused same)))
+    rw (p.1, p.2) (λ same. (
+      (c.in-Some.bus, c.maybe_gap.ensures.some c.in-Some.bus c.in-Some.is),
+      subst (λ ws. most_ways < 2 * length ws) c.as_slice-then-not-all_pass.ensures.value (c.in_err-ways-in-Some.ensures.refused same),
+    ))
