@@ -1,5 +1,5 @@
 -- Laws of a recording that is watched.
-use Rattle.std.proofs.Common.{◌≡◌, ◌∙◌, ℕ, ◌+◌, ◌<◌, ◌^◌, arith, Bool, Option, Some, None, is_some, true, false, inl, inr, List, [], ◌∷◌, ◌++◌, length, refl, sym, ap, subst, append_assoc, append-nil, length-append}
+use Rattle.std.proofs.Common.{◌≡◌, ◌∙◌, ℕ, ◌+◌, ◌<◌, ◌^◌, arith, Bool, Option, Some, None, is_some, true, false, inl, List, [], ◌∷◌, ◌++◌, length, refl, sym, ap, subst, append_assoc, append-nil, length-append}
 use Rattle.std.specs.List.{AllByRecursion}
 use Rattle.bus_word.specs.declared.cell.Cell.{Cell}
 use Rattle.bus_legal.specs.Description.{Description}
@@ -12,7 +12,7 @@ use Rattle.recorded_terminal.specs.declared.watch.Marked.{Marked}
 use Rattle.recorded_terminal.specs.declared.watch.Unexplained.{Unexplained}
 use Rattle.recorded_terminal.specs.declared.watch.Watch.{Watch}
 use Rattle.recorded_terminal.specs.declared.way.Way.{Way}
-use Rattle.recorded_terminal.specs.Marks.{maybe, maybe_in, seen_in, HasMaybeGap}
+use Rattle.recorded_terminal.specs.Marks.{maybe, maybe_in, seen_in, HasManyWays}
 use Rattle.recorded_terminal.specs.Ways.{AnyCanGoOn, AreWays, WayIsAt, Goes}
 use Rattle.recorded_terminal.specs.Watched.{instead_of, IsUnexplainedAt, IsDecidedAt, IsFollowing, WatchesBy}
 use Rattle.recorded_terminal.specs.inner.Steps.{StepsTo, LeavesNone}
@@ -134,6 +134,8 @@ begins_following is_legal P h w way one at empty none = record {
   ways = record {
     goes = subst (AllByRecursion (Goes is_legal P h [])) (sym one) ((h, at, record { events = []; proper = tt; history = refl; reading = []; reads = refl; fits = tt }), tt);
     some = λ e. let wrong : way ∷ [] ≡ [] = sym one ∙ e in cc;
+    few = omega (arith, ap length one);
+    most = omega (arith, ap length one);
   };
   goes_on = λ more is x. subst (λ l. AnyCanGoOn is_legal P more l) (sym one) (inl (h, at, x));
   none = ap (λ l. next_status (seen_in l)) empty;
@@ -275,12 +277,9 @@ sees_status is_legal P h ms m w v ws status none watches here some grown empty s
         found_in is_legal P h (ms ++ m ∷ []) i.followed ws w.followed status w.ways.items it (all_more is_legal P h ms m w i ws grown)
         (subst (λ (l : List Marked). AreBefore status l []) (sym grown) (before_status w.waiting.items m status [] i.none is)) i.counted i.goes_on f
 
--- ---- gaps that may have come
+-- ---- too many ways
 
-pub open_back : (ms ns : List Marked) → HasMaybeGap ns → HasMaybeGap (ms ++ ns)
-open_back [] ns x = x
-open_back (m ∷ ms) ns x = inr (open_back ms ns x)
-
--- one of those that wait is one of all
-pub open_waiting : {L : Type 0} (is_legal : L → Cell → Bool) (P : Description) (h : List Event) (ms more : List Marked) (w : Watch L) → IsFollowing is_legal P h ms w → HasMaybeGap (w.waiting.items ++ more) → HasMaybeGap (ms ++ more)
-open_waiting is_legal P h ms more w i x = subst HasMaybeGap (sym (ap (λ l. l ++ more) i.all ∙ append_assoc i.followed w.waiting.items more)) (open_back i.followed (w.waiting.items ++ more) x)
+-- with those that wait too many are open for all
+pub many_waiting : {L : Type 0} (is_legal : L → Cell → Bool) (P : Description) (h : List Event) (ms : List Marked) (m : Marked) (w : Watch L) (i : IsFollowing is_legal P h ms w) (ws : List Marked) → ws ≡ w.waiting.items ++ m ∷ [] →
+    HasManyWays (maybe_in (i.followed ++ ws)) → HasManyWays (maybe_in (ms ++ m ∷ []))
+many_waiting is_legal P h ms m w i ws grown x = subst (λ l. HasManyWays (maybe_in l)) (sym (all_more is_legal P h ms m w i ws grown)) x

@@ -1,5 +1,5 @@
 -- Laws of the ways that a recording can have gone.
-use Rattle.std.proofs.Common.{◌≡◌, ◌∙◌, ℕ, zero, suc, ◌≤◌, ◌<◌, arith, Bool, true, false, not, ◌&&◌, ◌||◌, if◌then◌else◌, length, take, drop, get_or, set, ◌==◌, eqb-true, Result, Ok, Err, IfOk, IfErr, ◌⊎◌, inl, inr, Option, None, List, [], ◌∷◌, ◌++◌, refl, sym, ap, subst}
+use Rattle.std.proofs.Common.{◌≡◌, ◌∙◌, ℕ, zero, suc, ◌≤◌, ◌<◌, arith, Bool, true, false, not, ◌&&◌, ◌||◌, if◌then◌else◌, length, take, drop, get_or, set, ◌==◌, eqb-true, Result, Ok, Err, IfOk, IfErr, ◌⊎◌, inl, inr, Option, None, List, [], ◌∷◌, ◌++◌, refl, sym, ap, subst, add-one, length-append}
 use Rattle.std.specs.List.{AllByRecursion}
 use Rattle.std.proofs.Math.Seq.{drop-cons}
 use Rattle.std.specs.Bool.{beq}
@@ -38,10 +38,11 @@ use Rattle.recorded_terminal.specs.declared.way.Way.{Way}
 use Rattle.recorded_terminal.specs.SentWords.{word_shown}
 use Rattle.recorded_terminal.specs.Sightings.{shown_sighting}
 use Rattle.recorded_terminal.specs.Follows.{told_by, AreTold}
-use Rattle.recorded_terminal.specs.Marks.{masked, maybe, maybe_of, maybe_in, IsMaybeGapOn, IsSeen}
+use Rattle.recorded_terminal.specs.Marks.{masked, maybe, maybe_of, maybe_in, most_ways, IsMaybeGapOn, IsSeen}
 use Rattle.recorded_terminal.specs.Ways.{AnyOf, AreQuiet, quiet_with, WayIsAt, told_then, WaySees, EachSees, WayTakesGap, WaysHaveMet, IsWay, Goes, CanGoOn, AnyCanGoOn, AreWays, masked_with}
 use Rattle.recorded_terminal.specs.inner.Kept.{KeepTheSame, IsIdleAt}
 use Rattle.recorded_terminal.specs.inner.Steps.{Keeps, SentFirst, LeftOf, AreToldNext, Splits, StepsTo, LeavesNone}
+use Rattle.recorded_terminal.proofs.GapLaws.{room_seen, room_open}
 use Rattle.recorded_terminal.proofs.TellLaws.{history_join}
 
 -- ---- lists
@@ -85,6 +86,9 @@ any_both : {X : Type 0} (F G H : X → Type 0) (xs : List X) → ((x : X) → F 
 any_both F G H [] f x a = x
 any_both F G H (y ∷ xs) f (inl x) a = inl (f y x a.0)
 any_both F G H (y ∷ xs) f (inr x) a = inr (any_both F G H xs f x a.1)
+
+one_longer : {X : Type 0} (xs : List X) (x : X) → length (xs ++ x ∷ []) ≡ suc (length xs)
+one_longer xs x = length-append xs (x ∷ []) ∙ add-one (length xs)
 
 -- ---- readings
 
@@ -263,11 +267,22 @@ each_on is_legal P low m status more later (w ∷ ws) [] is sees n x = absurd se
 each_on is_legal P low m status more later (w ∷ ws) (v ∷ vs) is sees n (inl x) = inl (on_seen is_legal P low m status more later w v is sees.0 n x)
 each_on is_legal P low m status more later (w ∷ ws) (v ∷ vs) is sees n (inr x) = inr (each_on is_legal P low m status more later ws vs is sees.1 n x)
 
+each_few : {L : Type 0} (is_legal : L → Cell → Bool) (m : Marked) (status : Option ℕ) (ws vs : List (Way L)) → EachSees is_legal status m ws vs → length vs ≡ length ws
+each_few is_legal m status [] [] sees = refl
+each_few is_legal m status [] (v ∷ vs) sees = absurd sees
+each_few is_legal m status (w ∷ ws) [] sees = absurd sees
+each_few is_legal m status (w ∷ ws) (v ∷ vs) sees = ap suc (each_few is_legal m status ws vs sees.1)
+
 -- some way is left, or none is
 pub steps_seen : {L : Type 0} (is_legal : L → Cell → Bool) (P : Description) (h : List Event) (ms : List Marked) (m : Marked) (status : Option ℕ) (ws vs us : List (Way L)) → P.address ≤ 30 → IsSeen m → AreWays is_legal P h ms ws →
     EachSees is_legal status m ws vs → LeftOf is_legal vs us → (us ≡ [] → ⊥) → StepsTo is_legal P h ms m status ws us
 steps_seen is_legal P h ms m status ws vs us low is ways sees left some = record {
-  ways = record { goes = left.goes P h (ms ++ m ∷ []) (each_goes is_legal P h ms m status ws vs is sees ways.goes); some = some };
+  ways = record {
+    goes = left.goes P h (ms ++ m ∷ []) (each_goes is_legal P h ms m status ws vs is sees ways.goes);
+    some = some;
+    few = omega (arith, left.few, ways.few, each_few is_legal m status ws vs sees, room_seen ms m is);
+    most = omega (arith, left.few, ways.most, each_few is_legal m status ws vs sees);
+  };
   goes_on = λ more later n x. left.goes_on P more (each_on is_legal P low m status more later ws vs is sees n x);
 }
 
@@ -300,6 +315,7 @@ left_more is_legal olds news w c left is copies = record {
     | inl y ↦ any_first (CanGoOn is_legal P more) news (c ∷ []) (left.goes_on P more y)
     | inr y ↦ any_last (CanGoOn is_legal P more) news (c ∷ []) (elim y [ inl z ↦ inl (z.1.0, copies P z.1.0 z.1.1, z.1.2) | inr z ↦ absurd z ])
   ];
+  few = omega (arith, left.few, one_longer olds w, one_longer news c);
 }
 
 pub left_out : {L : Type 0} (is_legal : L → Cell → Bool) (olds news : List (Way L)) (w : Way L) → LeftOf is_legal olds news → w.is_left ≡ false → LeftOf is_legal (olds ++ w ∷ []) news
@@ -309,12 +325,14 @@ left_out is_legal olds news w left is = record {
     | inl y ↦ left.goes_on P more y
     | inr y ↦ elim y [ inl z ↦ (let wrong : true ≡ false = sym z.0 ∙ is in absurd (cc)) | inr z ↦ absurd z ]
   ];
+  few = omega (arith, left.few, one_longer olds w);
 }
 
 pub all_left : {L : Type 0} (is_legal : L → Cell → Bool) (ws : List (Way L)) → AllByRecursion (λ w. w.is_left ≡ true) ws → LeftOf is_legal ws ws
 all_left {L = L} is_legal ws all = record {
   goes = λ P h ms x. each ws P h ms all x;
   goes_on = λ P more x. any_map (λ v. (v.is_left ≡ true) × CanGoOn is_legal P more v) (CanGoOn is_legal P more) ws (λ v y. y.1) x;
+  few = omega arith;
 }
   where
     each : (ws : List (Way L)) (P : Description) (h : List Event) (ms : List Marked) → AllByRecursion (λ w. w.is_left ≡ true) ws → AllByRecursion (λ w. w.is_left ≡ true → Goes is_legal P h ms w) ws → AllByRecursion (Goes is_legal P h ms) ws
@@ -325,26 +343,34 @@ all_left {L = L} is_legal ws all = record {
 
 -- where all that is kept is kept, and what a way explains is explained
 kept_goes : {L : Type 0} (is_legal : L → Cell → Bool) (F : Way L → Type 0) (olds : List (Way L)) (w : Way L) (news : List (Way L)) → Keeps is_legal olds w news → AllByRecursion F olds → F w → AllByRecursion F news
-kept_goes {L = L} is_legal F olds w news (inl e) a f = subst (λ (l : List (Way L)). AllByRecursion F l) (sym e) (all_join F olds (w ∷ []) a (f, tt))
+kept_goes {L = L} is_legal F olds w news (inl (e, room)) a f = subst (λ (l : List (Way L)). AllByRecursion F l) (sym e) (all_join F olds (w ∷ []) a (f, tt))
 kept_goes {L = L} is_legal F olds w news (inr k) a f = subst (λ (l : List (Way L)). AllByRecursion F l) (sym k.0) a
 
 kept_on : {L : Type 0} (is_legal : L → Cell → Bool) (F : Way L → Type 0) (olds : List (Way L)) (w : Way L) (news : List (Way L)) → Keeps is_legal olds w news → AnyOf F olds → AnyOf F news
-kept_on {L = L} is_legal F olds w news (inl e) x = subst (λ (l : List (Way L)). AnyOf F l) (sym e) (any_first F olds (w ∷ []) x)
+kept_on {L = L} is_legal F olds w news (inl (e, room)) x = subst (λ (l : List (Way L)). AnyOf F l) (sym e) (any_first F olds (w ∷ []) x)
 kept_on {L = L} is_legal F olds w news (inr k) x = subst (λ (l : List (Way L)). AnyOf F l) (sym k.0) x
 
 meets_on : {L : Type 0} (is_legal : L → Cell → Bool) (P : Description) (h : List Event) (ms : List Marked) (more : List MaybeSighting) (olds : List (Way L)) (w : Way L) (news : List (Way L)) → P.address ≤ 30 → IsMaybeRecording more → Keeps is_legal olds w news →
     AllByRecursion (Goes is_legal P h ms) olds → CanGoOn is_legal P more w → AnyCanGoOn is_legal P more news
-meets_on {L = L} is_legal P h ms more olds w news low is (inl e) goes x = subst (λ (l : List (Way L)). AnyCanGoOn is_legal P more l) (sym e) (any_last (CanGoOn is_legal P more) olds (w ∷ []) (inl x))
+meets_on {L = L} is_legal P h ms more olds w news low is (inl (e, room)) goes x = subst (λ (l : List (Way L)). AnyCanGoOn is_legal P more l) (sym e) (any_last (CanGoOn is_legal P more) olds (w ∷ []) (inl x))
 meets_on {L = L} is_legal P h ms more olds w news low is (inr k) goes x =
     subst (λ (l : List (Way L)). AnyCanGoOn is_legal P more l) (sym k.0)
     (any_both (WaysHaveMet is_legal w) (Goes is_legal P h ms) (CanGoOn is_legal P more) olds
     (λ v met g. (g.0, g.1, maybe_law.met P x.0 g.0 more low is (met P x.0 g.0 x.1 g.1) x.2)) k.1 goes)
 
 keeps_some : {L : Type 0} (is_legal : L → Cell → Bool) (olds : List (Way L)) (w : Way L) (news : List (Way L)) → Keeps is_legal olds w news → news ≡ [] → ⊥
-keeps_some is_legal [] w news (inl e) none = let wrong : w ∷ [] ≡ [] = sym e ∙ none in cc
-keeps_some is_legal (v ∷ olds) w news (inl e) none = let wrong : v ∷ (olds ++ w ∷ []) ≡ [] = sym e ∙ none in cc
+keeps_some is_legal [] w news (inl (e, room)) none = let wrong : w ∷ [] ≡ [] = sym e ∙ none in cc
+keeps_some is_legal (v ∷ olds) w news (inl (e, room)) none = let wrong : v ∷ (olds ++ w ∷ []) ≡ [] = sym e ∙ none in cc
 keeps_some is_legal [] w news (inr k) none = k.1
 keeps_some is_legal (v ∷ olds) w news (inr k) none = let wrong : v ∷ olds ≡ [] = sym k.0 ∙ none in cc
+
+pub kept_few : {L : Type 0} (is_legal : L → Cell → Bool) (olds : List (Way L)) (w : Way L) (news : List (Way L)) → Keeps is_legal olds w news → length news ≤ suc (length olds)
+kept_few is_legal olds w news (inl (e, room)) = omega (arith, ap length e, one_longer olds w)
+kept_few is_legal olds w news (inr k) = omega (arith, ap length k.0)
+
+kept_most : {L : Type 0} (is_legal : L → Cell → Bool) (olds : List (Way L)) (w : Way L) (news : List (Way L)) → Keeps is_legal olds w news → length olds ≤ most_ways → length news ≤ most_ways
+kept_most is_legal olds w news (inl (e, room)) most = omega (arith, ap length e, one_longer olds w)
+kept_most is_legal olds w news (inr k) most = omega (arith, ap length k.0)
 
 -- a way on which the gap would do nothing
 pub split_passes : {L : Type 0} (is_legal : L → Cell → Bool) (b : Bus) (status : Option ℕ) (olds all news : List (Way L)) (w c : Way L) → Splits is_legal b status olds all → ((P : Description) (h : List Event) → WayIsAt is_legal P h w → gap_does_nothing P h b ≡ true) →
@@ -363,6 +389,8 @@ split_passes is_legal b status olds all news w c s passes copies keeps = record 
         ]
       ];
   some = λ s. keeps_some is_legal all c news keeps;
+  few = omega (arith, s.few, one_longer olds w, kept_few is_legal all c news keeps);
+  most = λ most. kept_most is_legal all c news keeps (s.most (omega (arith, one_longer olds w)));
 }
 
 -- and one on which it would do something
@@ -392,6 +420,8 @@ split_both is_legal b status olds all mid news w v c s takes copies first second
         ]
       ];
   some = λ s. keeps_some is_legal mid c news second;
+  few = omega (arith, s.few, one_longer olds w, kept_few is_legal all v mid first, kept_few is_legal mid c news second);
+  most = λ most. kept_most is_legal mid c news second (kept_most is_legal all v mid first (s.most (omega (arith, one_longer olds w))));
 }
   where
     with_gap : (P : Description) (k : List Event) (m : Marked) (more : List MaybeSighting) (later : List Sighting) → IsMaybeGapOn b m → AreToldNext status m more later →
@@ -406,12 +436,19 @@ all_split is_legal b status ws passes = record {
       any_both (CanGoOn is_legal P (MaybeGap b ∷ more)) (λ w. (P : Description) (h : List Event) → WayIsAt is_legal P h w → gap_does_nothing P h b ≡ true) (CanGoOn is_legal P more) ws
       (λ w y pass. (y.0, y.1, (maybe_law.left_out P y.0 b more low n.are_more (pass P y.0 y.1)).0 y.2)) x passes;
   some = λ s. s;
+  few = omega arith;
+  most = λ most. most;
 }
 
 pub steps_split : {L : Type 0} (is_legal : L → Cell → Bool) (P : Description) (h : List Event) (ms : List Marked) (m : Marked) (b : Bus) (status : Option ℕ) (ws vs : List (Way L)) → P.address ≤ 30 → IsMaybeGapOn b m → AreWays is_legal P h ms ws →
     Splits is_legal b status ws vs → StepsTo is_legal P h ms m status ws vs
 steps_split is_legal P h ms m b status ws vs low is ways s = record {
-  ways = record { goes = s.goes P h ms m is ways.goes; some = s.some ways.some };
+  ways = record {
+    goes = s.goes P h ms m is ways.goes;
+    some = s.some ways.some;
+    few = omega (arith, s.few, ways.few, room_open ms m b is);
+    most = s.most ways.most;
+  };
   goes_on = λ more later n x. s.goes_on P h ms m more later low is n ways.goes (subst (λ (y : MaybeSighting). AnyCanGoOn is_legal P (y ∷ more) ws) is x);
 }
 

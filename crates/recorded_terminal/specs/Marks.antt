@@ -1,5 +1,5 @@
 -- Sightings of a recording, with their places, as the definitions of recordings have them.
-use Rattle.std.specs.Prelude.{◌≡◌, ◌⊎◌, Bool, true, false, List, [], ◌∷◌, map}
+use Rattle.std.specs.Prelude.{◌≡◌, ℕ, suc, ◌<◌, ◌^◌, Bool, true, false, List, [], ◌∷◌, map}
 use Rattle.bus_word.specs.declared.word.Bus.{Bus}
 use Rattle.terminal_rules.specs.declared.event.Event.{Event}
 use Rattle.terminal_rules.specs.declared.event.Event.TheVariants.{Gap}
@@ -28,10 +28,19 @@ IsMaybeGapOn b m = maybe m ≡ MaybeGap b
 abbrev pub IsSeen : Marked → Type 0
 IsSeen m = maybe m ≡ Seen (masked m)
 
--- one of them is a gap that may have come
-abbrev pub HasMaybeGap : List Marked → Type 0
-HasMaybeGap [] = ⊥
-HasMaybeGap (m ∷ ms) = ((b : Bus) × IsMaybeGapOn b m) ⊎ HasMaybeGap ms
+-- how many gaps may have come
+abbrev pub maybe_gaps : List MaybeSighting → ℕ
+maybe_gaps [] = 0
+maybe_gaps (MaybeGap b ∷ xs) = suc (maybe_gaps xs)
+maybe_gaps (Seen m ∷ xs) = maybe_gaps xs
+
+-- how many ways are followed, and no more
+abbrev pub most_ways : ℕ
+most_ways = 64
+
+-- the gaps that may have come leave room for more ways than are followed
+abbrev pub HasManyWays : List MaybeSighting → Type 0
+HasManyWays xs = most_ways < 2 ^ maybe_gaps xs
 
 -- what was seen, without the places of the sightings
 abbrev pub maybe_in : List Marked → List MaybeSighting

@@ -1,5 +1,5 @@
 -- The ways that a recording can have gone, where gaps in it may have come or not.
-use Rattle.std.specs.Prelude.{◌≡◌, ◌↔◌, ◌⊎◌, ℕ, Bool, true, false, Option, None, List, [], ◌∷◌, IsTrue}
+use Rattle.std.specs.Prelude.{◌≡◌, ◌↔◌, ◌⊎◌, ◌≤◌, ◌^◌, ℕ, Bool, true, false, Option, None, List, [], ◌∷◌, length, IsTrue}
 use Rattle.std.specs.List.{AllByRecursion}
 use Rattle.bus_word.specs.declared.word.Bus.{Bus}
 use Rattle.bus_word.specs.declared.word.Bus.TheVariants.{A, B}
@@ -21,7 +21,7 @@ use Rattle.recorded_terminal.specs.declared.way.Way.{Way}
 use Rattle.bus_terminal.specs.declared.answer.Sent.{Sent}
 use Rattle.recorded_terminal.specs.SentWords.{word_shown}
 use Rattle.recorded_terminal.specs.Follows.{FollowsAt, told_by}
-use Rattle.recorded_terminal.specs.Marks.{maybe_in}
+use Rattle.recorded_terminal.specs.Marks.{maybe_in, maybe_gaps, most_ways}
 
 abbrev pub AnyOf : {A : Type 0} → (A → Type 0) → List A → Type 0
 AnyOf Holds [] = ⊥
@@ -84,10 +84,13 @@ CanGoOn is_legal P more w = (k : List Event) × WayIsAt is_legal P k w × IsExpl
 abbrev pub AnyCanGoOn : {L : Type 0} → (L → Cell → Bool) → Description → List MaybeSighting → List (Way L) → Type 0
 AnyCanGoOn is_legal P more ws = AnyOf (CanGoOn is_legal P more) ws
 
--- these are ways that what was seen can have gone, and there is one
+-- These are ways that what was seen can have gone. There is one, each gap that may have come makes at most two of one,
+-- and there are no more than are followed.
 pub record AreWays {L : Type 0} (is_legal : L → Cell → Bool) (P : Description) (h : List Event) (ms : List Marked) (ws : List (Way L)) : Type 0 where
   pub goes : AllByRecursion (Goes is_legal P h ms) ws
   pub some : ws ≡ [] → ⊥
+  pub few : length ws ≤ 2 ^ maybe_gaps (maybe_in ms)
+  pub most : length ws ≤ most_ways
 
 -- a sighting with this word in place of the one that was seen, or none
 abbrev pub masked_with : Marked → Option Sent → MaskedSighting

@@ -4,7 +4,7 @@ ghost use Rattle.std.specs.Prelude.{◌≡◌, ◌++◌, ◌∷◌, [], List, If
 ghost use Rattle.bus_legal.specs.Description.{Description, described};
 ghost use Rattle.recorded_terminal.specs.declared.watch.Marked.{Marked};
 ghost use Rattle.recorded_terminal.specs.declared.watch.WatchFault.TheVariants.{TooManyWays};
-ghost use Rattle.recorded_terminal.specs.Marks.{HasMaybeGap};
+ghost use Rattle.recorded_terminal.specs.Marks.{maybe_in, HasManyWays};
 ghost use Rattle.recorded_terminal.specs.Judged.{IsBest, WatchBegun};
 ghost use Rattle.recorded_terminal.specs.inner.Latest.{IsBetter};
 
@@ -62,7 +62,7 @@ impl<L: Legality + Drop + Copy> Beginnings<L> {
     /// Takes what is seen next.
     pub fn see(&mut self, marked: &Marked) -> Result<(), WatchFault>
         ensures sees { OnOk result ((P : Description) (ms : List Marked) → WatchBegun L.is_legal P ms self.old → WatchBegun L.is_legal P (ms ++ marked.now ∷ []) self.new) }
-        ensures refused { IfErr result (λ fault. fault ≡ TooManyWays → (P : Description) (ms : List Marked) → WatchBegun L.is_legal P ms self.old → HasMaybeGap (ms ++ marked.now ∷ [])) }
+        ensures refused { IfErr result (λ fault. fault ≡ TooManyWays → (P : Description) (ms : List Marked) → WatchBegun L.is_legal P ms self.old → HasManyWays (maybe_in (ms ++ marked.now ∷ []))) }
     {
         self.none.see(*marked)?;
         self.a.see(*marked)?;
@@ -75,7 +75,7 @@ impl<L: Legality + Drop + Copy> Beginnings<L> {
     /// None where one explains all, as this one does then.
     pub fn end(self) -> Result<BestBeginning, WatchFault>
         ensures best { IfOk result (λ best. (P : Description) (ms : List Marked) → WatchBegun L.is_legal P ms self → IsBest P ms best) }
-        ensures refused { IfErr result (λ fault. fault ≡ TooManyWays → (P : Description) (ms : List Marked) → WatchBegun L.is_legal P ms self → HasMaybeGap ms) }
+        ensures refused { IfErr result (λ fault. fault ≡ TooManyWays → (P : Description) (ms : List Marked) → WatchBegun L.is_legal P ms self → HasManyWays (maybe_in ms)) }
     {
         let Beginnings { none, a, b, both } = self;
         let none = BestBeginning {

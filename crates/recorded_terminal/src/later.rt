@@ -6,7 +6,7 @@ ghost use Rattle.terminal_rules.specs.Status.{spares};
 ghost use Rattle.recorded_terminal.specs.SentWords.{word_shown};
 ghost use Rattle.recorded_terminal.specs.declared.watch.Marked.{Marked};
 ghost use Rattle.recorded_terminal.specs.declared.watch.WatchFault.TheVariants.{TooManyWays};
-ghost use Rattle.recorded_terminal.specs.Marks.{maybe, HasMaybeGap};
+ghost use Rattle.recorded_terminal.specs.Marks.{maybe, maybe_in, HasManyWays};
 ghost use Rattle.recorded_terminal.specs.Judged.{CanBegin, IsJudgedBy, WatchesLater, shown_gaps};
 ghost use Rattle.recorded_terminal.specs.inner.Gaps.{AreGaps, IsPartOn, IsPartWith, at_most_two};
 ghost use Rattle.recorded_terminal.specs.Sightings.{shown_sighting};
@@ -177,7 +177,7 @@ impl<L: Legality + Drop + Copy> LaterWatch<L> {
     /// Takes what is seen next. More than 2^64 - 1 sightings are as if memory had run out.
     pub fn see(&mut self, marked: Marked) -> Result<(), WatchFault>
         ensures sees { OnOk result ((P : Description) (ms : List Marked) → WatchesLater L.is_legal P ms self.old → WatchesLater L.is_legal P (ms ++ marked ∷ []) self.new) }
-        ensures refused { IfErr result (λ fault. fault ≡ TooManyWays → (P : Description) (ms : List Marked) → WatchesLater L.is_legal P ms self.old → HasMaybeGap (ms ++ marked ∷ [])) }
+        ensures refused { IfErr result (λ fault. fault ≡ TooManyWays → (P : Description) (ms : List Marked) → WatchesLater L.is_legal P ms self.old → HasManyWays (maybe_in (ms ++ marked ∷ []))) }
     {
         let Some(seen) = self.seen.checked_add(1) else {
             return Err(WatchFault::Memory);
@@ -204,7 +204,7 @@ impl<L: Legality + Drop + Copy> LaterWatch<L> {
     /// begins afresh after a pause.
     pub fn end(self) -> Result<Option<FreshPart>, WatchFault>
         ensures judged { IfOk result (λ judged. (P : Description) (ms : List Marked) → WatchesLater L.is_legal P ms self → IsJudgedBy P ms judged) }
-        ensures refused { IfErr result (λ fault. fault ≡ TooManyWays → (P : Description) (ms : List Marked) → WatchesLater L.is_legal P ms self → HasMaybeGap ms) }
+        ensures refused { IfErr result (λ fault. fault ≡ TooManyWays → (P : Description) (ms : List Marked) → WatchesLater L.is_legal P ms self → HasManyWays (maybe_in ms)) }
     {
         let LaterWatch {
             part,

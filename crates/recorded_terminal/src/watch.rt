@@ -8,7 +8,7 @@ ghost use Rattle.recorded_terminal.specs.Follows.{FollowsAt, shut_down};
 ghost use Rattle.bus_terminal.specs.Answer.{shown_word};
 ghost use Rattle.terminal_recordings.specs.Masks.{AreDataWords, FitsWord};
 ghost use Rattle.recorded_terminal.specs.SentWords.{word_shown};
-ghost use Rattle.recorded_terminal.specs.Marks.{seen_in, HasMaybeGap};
+ghost use Rattle.recorded_terminal.specs.Marks.{maybe_in, seen_in, HasManyWays};
 ghost use Rattle.terminal_recordings.specs.Completion.{next_status};
 ghost use Rattle.recorded_terminal.specs.Watched.{IsDecidedAt, Watches};
 ghost use Rattle.recorded_terminal.specs.inner.Followed.{Followed};
@@ -123,7 +123,7 @@ fn follow<L: Legality + Copy + Drop>(
     status: Option<u16>,
 ) -> Result<Option<Unexplained>, WatchFault>
     ensures found { IfOk result (λ found. (P : Description) (h : List Event) (ms : List Marked) → P.address ≤ 30 → followed + length waiting.now < 2 ^ 64 → AreWays L.is_legal P h ms ways.old.items → Followed L.is_legal P h ms followed status waiting.now ways.old.items ways.new.items found) }
-    ensures refused { IfErr result (λ fault. fault ≡ TooManyWays → HasMaybeGap waiting.now) }
+    ensures refused { IfErr result (λ fault. fault ≡ TooManyWays → (P : Description) (h : List Event) (ms : List Marked) → P.address ≤ 30 → AreWays L.is_legal P h ms ways.old.items → HasManyWays (maybe_in (ms ++ waiting.now))) }
 {
     for (number, marked) in waiting.iter().enumerate() {
         if let Some(instead) = see(alloc, ways, marked, status)? {
@@ -185,10 +185,10 @@ impl<L: Legality + Copy + Drop> Watch<L> {
     }
 
     /// Takes what is seen next. More than 2^64 - 1 sightings are as if memory had run out, and too many ways come only of gaps that may
-    /// have come.
+    /// have come, and leave room for them.
     pub fn see(&mut self, marked: Marked) -> Result<(), WatchFault>
         ensures sees { OnOk result ((P : Description) (h : List Event) (ms : List Marked) → Watches L.is_legal P h ms self.old → Watches L.is_legal P h (ms ++ marked ∷ []) self.new) }
-        ensures refused { IfErr result (λ fault. fault ≡ TooManyWays → (P : Description) (h : List Event) (ms : List Marked) → Watches L.is_legal P h ms self.old → HasMaybeGap (ms ++ marked ∷ [])) }
+        ensures refused { IfErr result (λ fault. fault ≡ TooManyWays → (P : Description) (h : List Event) (ms : List Marked) → Watches L.is_legal P h ms self.old → HasManyWays (maybe_in (ms ++ marked ∷ []))) }
     {
         if self.first.is_some() {
             return Ok(());
@@ -216,7 +216,7 @@ impl<L: Legality + Copy + Drop> Watch<L> {
     /// None where the whole recording is explained.
     pub fn end(self) -> Result<Option<Unexplained>, WatchFault>
         ensures first { IfOk result (λ first. (P : Description) (h : List Event) (ms : List Marked) → Watches L.is_legal P h ms self → IsDecidedAt P h ms first) }
-        ensures refused { IfErr result (λ fault. fault ≡ TooManyWays → (P : Description) (h : List Event) (ms : List Marked) → Watches L.is_legal P h ms self → HasMaybeGap ms) }
+        ensures refused { IfErr result (λ fault. fault ≡ TooManyWays → (P : Description) (h : List Event) (ms : List Marked) → Watches L.is_legal P h ms self → HasManyWays (maybe_in ms)) }
     {
         let Watch {
             alloc,

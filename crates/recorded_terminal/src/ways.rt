@@ -1,5 +1,5 @@
 //! All ways that a recording can have gone so far. Where a gap may have come or not, and that makes a difference, one way becomes two.
-ghost use Rattle.std.specs.Prelude.{◌≡◌, ◌≤◌, ℕ, List, Option, Some, None, true, IfOk, IfErr, OnOk};
+ghost use Rattle.std.specs.Prelude.{◌≡◌, ◌≤◌, ◌<◌, ◌*◌, ℕ, List, Option, Some, None, true, length, IfOk, IfErr, OnOk};
 ghost use Rattle.std.specs.List.{AllByRecursion};
 ghost use Rattle.bus_word.specs.declared.word.Bus.{Bus};
 ghost use Rattle.bus_legal.specs.Description.{Description};
@@ -7,7 +7,7 @@ ghost use Rattle.terminal_rules.specs.declared.event.Event.{Event};
 ghost use Rattle.recorded_terminal.specs.SentWords.{word_shown};
 ghost use Rattle.recorded_terminal.specs.declared.watch.Marked.{Marked};
 ghost use Rattle.recorded_terminal.specs.declared.watch.WatchFault.TheVariants.{Memory, TooManyWays};
-ghost use Rattle.recorded_terminal.specs.Marks.{IsMaybeGapOn, IsSeen};
+ghost use Rattle.recorded_terminal.specs.Marks.{most_ways, IsMaybeGapOn, IsSeen};
 ghost use Rattle.recorded_terminal.specs.Ways.{AnyOf, AreWays, EachSees, WaysHaveMet};
 ghost use Rattle.recorded_terminal.specs.inner.Steps.{Keeps, LeftOf, SentFirst, Splits, SeesNext};
 
@@ -102,7 +102,8 @@ fn push_unless_met<L: Legality + Drop>(
     ways: &mut Vec<Way<L>>,
     way: Way<L>,
 ) -> Result<(), WatchFault>
-    ensures { OnOk result (Keeps L.is_legal ways.old.items way ways.new.items) }
+    ensures keeps { OnOk result (Keeps L.is_legal ways.old.items way ways.new.items) }
+    ensures refused { IfErr result (λ fault. fault ≡ TooManyWays → most_ways ≤ length ways.old.items) }
 {
     if have_met(ways.as_slice(), &way) {
         return Ok(());
@@ -133,7 +134,8 @@ fn split<L: Legality + Copy + Drop>(
     bus: Bus,
     status: Option<u16>,
 ) -> Result<Vec<Way<L>>, WatchFault>
-    ensures { IfOk result (λ all. Splits L.is_legal bus status ways.now all.items) }
+    ensures splits { IfOk result (λ all. Splits L.is_legal bus status ways.now all.items) }
+    ensures refused { IfErr result (λ fault. fault ≡ TooManyWays → most_ways < 2 * length ways.now) }
 {
     let mut all = Vec::new(alloc);
     for way in ways {
@@ -176,7 +178,7 @@ pub fn see<L: Legality + Copy + Drop>(
     status: Option<u16>,
 ) -> Result<Option<Instead>, WatchFault>
     ensures sees { IfOk result (λ instead. (P : Description) (h : List Event) (ms : List Marked) → P.address ≤ 30 → AreWays L.is_legal P h ms ways.old.items → SeesNext L.is_legal P h ms marked.now status ways.old.items ways.new.items instead) }
-    ensures refused { IfErr result (λ fault. fault ≡ TooManyWays → (bus : Bus) × IsMaybeGapOn bus marked.now) }
+    ensures refused { IfErr result (λ fault. fault ≡ TooManyWays → ((bus : Bus) × IsMaybeGapOn bus marked.now) × (most_ways < 2 * length ways.old.items)) }
 {
     match maybe_gap(marked) {
         Some(bus) => {

@@ -1,8 +1,8 @@
 -- Laws of a recording that is read, sighting by sighting.
-use Rattle.std.proofs.Common.{◌≡◌, ◌∙◌, ℕ, Option, Some, None, IfSome, Result, Ok, Err, List, [], ◌∷◌, ◌++◌, ⊎_elim, inl, inr, refl, sym, ap, subst, append-nil}
+use Rattle.std.proofs.Common.{◌≡◌, ◌∙◌, ℕ, Option, Some, None, IfSome, Result, Ok, Err, List, [], ◌∷◌, ◌++◌, ⊎_elim, refl, sym, ap, subst, append-nil}
 use Rattle.terminal_recordings.specs.MaybeGaps.{MaybeSighting}
 use Rattle.recorded_terminal.specs.declared.watch.Marked.{Marked}
-use Rattle.recorded_terminal.specs.Marks.{maybe, maybe_in, HasMaybeGap}
+use Rattle.recorded_terminal.specs.Marks.{maybe_in, HasManyWays}
 use Rattle.recorded_terminal.specs.declared.watch.WatchFault.{WatchFault}
 use Rattle.recorded_terminal.specs.declared.watch.WatchFault.TheVariants as watch
 use Rattle.rt1553_verify.specs.declared.stated.Stated.{Stated}
@@ -13,7 +13,7 @@ use Rattle.rt1553_verify.specs.Reader.{NextIs}
 use Rattle.rt1553_verify.proofs.StatedLaws.{then-twice}
 use Rattle.script_recordings.specs.declared.reading.RecordingFault.{RecordingFault}
 use Rattle.script_recordings.specs.declared.reading.RecordingFault.TheVariants.{Unseen, Masked, NoWord, TooManyWays, Script}
-use Rattle.script_recordings.specs.Seen.{AreToldAs, IsUnseenAs, IsOpen, StatesRecording, StatesNoRecording}
+use Rattle.script_recordings.specs.Seen.{AreToldAs, IsUnseenAs, StatesRecording, StatesNoRecording}
 use Rattle.script_recordings.specs.Messages.{InMessage, AreInMessages}
 use Rattle.script_recordings.specs.inner.Reads.{Left, IsMarkedAs, SaysNothing, RefusesRest, NextSeen, watch_fault_of}
 
@@ -180,26 +180,21 @@ pub recording_all : (input : Option (List ℕ)) (left new : Left) (ms : List Mar
 recording_all None left new ms read end = tt
 recording_all (Some script) left new ms read end = let a = read_all script left new ms read end in (a.0, a.1, are_told a.0 ms a.2)
 
--- ---- gaps that may have come
-
-pub open_in : (ms : List Marked) → HasMaybeGap ms → IsOpen (maybe_in ms)
-open_in [] has = absurd has
-open_in (m ∷ ms) (inl (bus, is)) = ([], bus, maybe_in ms, ap (λ x. x ∷ maybe_in ms) is)
-open_in (m ∷ ms) (inr has) = let (front, bus, rest, is) = open_in ms has in (maybe m ∷ front, bus, rest, ap (λ l. maybe m ∷ l) is)
+-- ---- too many ways
 
 -- a fault of a watch
-pub watch_refused : (input : Option (List ℕ)) (left : Left) (ms : List Marked) (fault : WatchFault) → ReadSoFar input left ms → (fault ≡ watch.TooManyWays → HasMaybeGap ms)
+pub watch_refused : (input : Option (List ℕ)) (left : Left) (ms : List Marked) (fault : WatchFault) → ReadSoFar input left ms → (fault ≡ watch.TooManyWays → HasManyWays (maybe_in ms))
     → IfSome input (λ script. StatesNoRecording script (watch_fault_of fault))
 watch_refused None left ms fault read has = tt
 watch_refused (Some script) left ms watch.Memory read has = λ memory read. absurd (memory refl)
-watch_refused (Some script) left ms watch.TooManyWays (front, later, is, all, are) has = (maybe_in ms, (front, later, all, are_told front ms are), open_in ms (has refl))
+watch_refused (Some script) left ms watch.TooManyWays (front, later, is, all, are) has = (maybe_in ms, (front, later, all, are_told front ms are), has refl)
 
 -- so is that of one by which a reading is sought
-pub settle_refused : (input : Option (List ℕ)) (ms : List Marked) (fault : WatchFault) → IfSome input (λ script. StatesRecording script (maybe_in ms)) → (fault ≡ watch.TooManyWays → HasMaybeGap ms)
+pub settle_refused : (input : Option (List ℕ)) (ms : List Marked) (fault : WatchFault) → IfSome input (λ script. StatesRecording script (maybe_in ms)) → (fault ≡ watch.TooManyWays → HasManyWays (maybe_in ms))
     → IfSome input (λ script. StatesNoRecording script (watch_fault_of fault))
 settle_refused None ms fault states has = tt
 settle_refused (Some script) ms watch.Memory states has = λ memory read. absurd (memory refl)
-settle_refused (Some script) ms watch.TooManyWays (ss, said, are) has = (maybe_in ms, (ss, Ok [], said ∙ ap Ok (sym (append-nil ss)), are), open_in ms (has refl))
+settle_refused (Some script) ms watch.TooManyWays (ss, said, are) has = (maybe_in ms, (ss, Ok [], said ∙ ap Ok (sym (append-nil ss)), are), has refl)
 
 pub memory_refused : (input : Option (List ℕ)) → IfSome input (λ script. StatesNoRecording script (Script Memory))
 memory_refused None = tt

@@ -8,7 +8,8 @@ use Rattle.terminal_recordings.specs.Masks.{MaskedSighting}
 use Rattle.terminal_recordings.specs.MaybeGaps.{MaybeSighting, Seen, MaybeGap, IsReadingOf, ExplainsReading, IsExplainedSomehow, gap_on}
 use Rattle.terminal_recordings.proofs.MaybeLaw.{whole_reading}
 use Rattle.recorded_terminal.specs.declared.watch.Marked.{Marked}
-use Rattle.recorded_terminal.specs.Marks.{IsSeen, IsMaybeGapOn, masked, masked_in, maybe_in}
+use Rattle.recorded_terminal.specs.Marks.{IsSeen, IsMaybeGapOn, HasManyWays, masked, masked_in, maybe_in, maybe_gaps}
+use Rattle.recorded_terminal.proofs.GapLaws.{gaps_join, many_more}
 use Rattle.recorded_terminal.proofs.WayLaws.{maybe_append}
 use Rattle.recorded_terminal.proofs.CameLaws.{masked_append}
 use Rattle.script_recordings.specs.inner.Settled.{AllSeen, IsSettled, SettlesOne}
@@ -63,6 +64,16 @@ seen_more (n ∷ ms) m seen is = (seen.0, seen_more ms m seen.1 is)
 pub all_seen : (ms : List Marked) → AllSeen ms → maybe_in ms ≡ map Seen (masked_in ms)
 all_seen [] seen = refl
 all_seen (m ∷ ms) seen = λ j. seen.0 j ∷ all_seen ms seen.1 j
+
+-- none of them may have come or not
+pub seen_gaps : (ms : List Marked) → AllSeen ms → maybe_gaps (maybe_in ms) ≡ 0
+seen_gaps [] seen = refl
+seen_gaps (m ∷ ms) seen = ap (λ x. maybe_gaps (x ∷ maybe_in ms)) seen.0 ∙ seen_gaps ms seen.1
+
+-- behind what is settled there is room for no more ways than there is in all
+pub many_settled : (settled front ms : List Marked) → AllSeen settled → HasManyWays (maybe_in (settled ++ ms)) → HasManyWays (maybe_in (front ++ ms))
+many_settled settled front ms seen =
+    many_more (maybe_in (settled ++ ms)) (maybe_in (front ++ ms)) (omega (arith, seen_gaps settled seen, gaps_join settled ms, gaps_join front ms))
 
 -- ---- one after the other
 

@@ -1,5 +1,5 @@
 -- Laws of what is judged of a recording that began at any time.
-use Rattle.std.proofs.Common.{◌≡◌, ◌∙◌, inl, inr, ℕ, Option, Some, None, IfSome, Ok, List, [], ◌∷◌, ◌++◌, append_assoc, take-append-drop, take, drop, length, suc, ◌≤◌, refl, sym, ap, subst}
+use Rattle.std.proofs.Common.{◌≡◌, ◌∙◌, ℕ, Option, Some, None, IfSome, Ok, List, [], ◌∷◌, ◌++◌, append_assoc, drop, length, suc, ◌≤◌, refl, sym, ap, subst}
 use Rattle.bus_word.specs.Mode as mode
 use Rattle.bus_legal.specs.Description.{Description}
 use Rattle.bus_legal.specs.Parts.{Parts, description_in, IsNormal}
@@ -15,11 +15,10 @@ use Rattle.recorded_terminal.specs.declared.watch.Unexplained.{Unexplained}
 use Rattle.recorded_terminal.specs.declared.later.FreshPart.{FreshPart}
 use Rattle.terminal_recordings.specs.Masks.{FitsMasked, unmasked, ExplainsSome}
 use Rattle.terminal_recordings.proofs.MaskLaw.{mask_law}
-use Rattle.recorded_terminal.specs.Marks.{masked_in, maybe_in, seen_in, HasMaybeGap}
+use Rattle.recorded_terminal.specs.Marks.{masked_in, maybe_in, seen_in}
 use Rattle.recorded_terminal.specs.Watched.{IsUnexplainedBy}
 use Rattle.recorded_terminal.proofs.CameLaws.{certainly_all, masked_recording}
 use Rattle.recorded_terminal.proofs.WayLaws.{maybe_append}
-use Rattle.recorded_terminal.proofs.WatchLaws.{open_back}
 use Rattle.recorded_terminal.specs.Follows.{shut_down}
 use Rattle.recorded_terminal.specs.Judged.{CanBegin, IsJudged, IsJudgedBy}
 use Rattle.recorded_terminal.specs.Behaviour.{IsBehaviourAfter}
@@ -122,15 +121,6 @@ no_part None D ms states none = tt
 no_part (Some script) D ms states none = (maybe_in ms, states, none)
 
 -- ---- a witness
-
--- one of a front is one of all
-pub open_front : (ms ns : List Marked) → HasMaybeGap ms → HasMaybeGap (ms ++ ns)
-open_front [] ns has = absurd has
-open_front (m ∷ ms) ns (inl has) = inl has
-open_front (m ∷ ms) ns (inr has) = inr (open_front ms ns has)
-
-pub open_back_of : (ms : List Marked) (n : ℕ) → HasMaybeGap (drop n ms) → HasMaybeGap ms
-open_back_of ms n has = subst HasMaybeGap (take-append-drop n ms) (open_back (take n ms) (drop n ms) has)
 
 -- what the events of a reading of the part are, of a script that states the recording
 pub is_later_witness : (D : Description) (script : List ℕ) (ms settled : List Marked) (it : FreshPart) (events : List Event) → D.address ≤ 30 → StatesRecording script (maybe_in ms) → IsJudged D ms it →

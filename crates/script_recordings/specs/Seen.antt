@@ -9,6 +9,7 @@ use Rattle.terminal_rules.specs.Out.{Sending, sending_out}
 use Rattle.terminal_recordings.specs.Recordings.{is_seen}
 use Rattle.terminal_recordings.specs.Masks.{MaskedSighting}
 use Rattle.terminal_recordings.specs.MaybeGaps.{MaybeSighting, Seen, MaybeGap}
+use Rattle.recorded_terminal.specs.Marks.{HasManyWays}
 use Rattle.script_lines.specs.Transcript.{answer_text, sent_text}
 use Rattle.rt1553_verify.specs.declared.matching.Matching.TheVariants.{Exact, Masked as Mask}
 use Rattle.rt1553_verify.specs.declared.stated.ScriptWarning.{ScriptWarning}
@@ -85,19 +86,15 @@ IsNoRecording ss fault =
 abbrev pub StatesRecording : List ℕ → List MaybeSighting → Type 0
 StatesRecording script xs = (ss : List StatedEvent) × (stated_through script ≡ Ok ss) × AreToldAs ss xs
 
--- a gap in it may have come or not
-abbrev pub IsOpen : List MaybeSighting → Type 0
-IsOpen xs = (front : List MaybeSighting) × (bus : Bus) × (rest : List MaybeSighting) × (xs ≡ front ++ MaybeGap bus ∷ rest)
-
 -- a script begins with events of which this is told
 abbrev pub BeginsAs : List ℕ → List MaybeSighting → Type 0
 BeginsAs script xs = (front : List StatedEvent) × (later : Result (List StatedEvent) StatedFault) × (stated_through script ≡ then_events front later) × AreToldAs front xs
 
--- Why a script states none: it has a fault, or else what it says is no recording; or gaps that may have come leave too many ways open to
--- judge it. That memory runs out and that a read fails say nothing of it.
+-- Why a script states none: it has a fault, or else what it says is no recording; or gaps that may have come leave room for too many
+-- ways to judge it. That memory runs out and that a read fails say nothing of it.
 abbrev pub StatesNoRecording : List ℕ → RecordingFault → Type 0
 StatesNoRecording script (Script fault) = fault ≢ Memory → fault ≢ Read → stated_through script ≡ Err fault
-StatesNoRecording script TooManyWays = (xs : List MaybeSighting) × BeginsAs script xs × IsOpen xs
+StatesNoRecording script TooManyWays = (xs : List MaybeSighting) × BeginsAs script xs × HasManyWays xs
 StatesNoRecording script fault = (ss : List StatedEvent) × (stated_through script ≡ Ok ss) × IsNoRecording ss fault
 
 -- a word was sent

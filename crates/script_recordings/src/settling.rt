@@ -10,7 +10,7 @@ ghost use Rattle.terminal_recordings.specs.MaybeGaps.{IsExplainedSomehow, gap_on
 ghost use Rattle.recorded_terminal.specs.declared.watch.Marked.{Marked};
 ghost use Rattle.recorded_terminal.specs.declared.watch.WatchFault.TheVariants.{TooManyWays};
 ghost use Rattle.recorded_terminal.specs.Follows.{shut_down};
-ghost use Rattle.recorded_terminal.specs.Marks.{HasMaybeGap, IsMaybeGapOn, IsSeen, masked, maybe_in};
+ghost use Rattle.recorded_terminal.specs.Marks.{HasManyWays, IsMaybeGapOn, IsSeen, masked, maybe_in};
 ghost use Rattle.recorded_terminal.specs.Watched.{Watches};
 ghost use Rattle.script_recordings.specs.inner.Settled.{IsSettled, SettlesOne};
 
@@ -23,7 +23,8 @@ use terminal_state::OnBuses;
 
 /// Gives a watch what is seen next.
 fn see_all(watch: &mut Watch<Normal>, recording: &[Marked]) -> Result<(), WatchFault>
-    ensures { OnOk result ((P : Description) (h : List SeenEvent) (ms : List Marked) → Watches (λ normal. tables_say normal.tables) P h ms watch.old → Watches (λ normal. tables_say normal.tables) P h (ms ++ recording.now) watch.new) }
+    ensures sees { OnOk result ((P : Description) (h : List SeenEvent) (ms : List Marked) → Watches (λ normal. tables_say normal.tables) P h ms watch.old → Watches (λ normal. tables_say normal.tables) P h (ms ++ recording.now) watch.new) }
+    ensures refused { IfErr result (λ fault. fault ≡ TooManyWays → (P : Description) (h : List SeenEvent) (ms : List Marked) → Watches (λ normal. tables_say normal.tables) P h ms watch.old → HasManyWays (maybe_in (ms ++ recording.now))) }
 {
     'sightings: for marked in recording {
         watch.see(*marked)?;
@@ -40,7 +41,8 @@ fn is_explained(
     front: &[Marked],
     rest: &[Marked],
 ) -> Result<bool, WatchFault>
-    ensures { IfOk result (λ truth. IsTrue truth ↔ IsExplainedSomehow (description_in normal.now) (shut_history (description_in normal.now) (shut_down shut)) (maybe_in (front.now ++ rest.now))) }
+    ensures explained { IfOk result (λ truth. IsTrue truth ↔ IsExplainedSomehow (description_in normal.now) (shut_history (description_in normal.now) (shut_down shut)) (maybe_in (front.now ++ rest.now))) }
+    ensures refused { IfErr result (λ fault. fault ≡ TooManyWays → HasManyWays (maybe_in (front.now ++ rest.now))) }
 {
     let mut watch = Watch::shut(alloc, normal.setup(), *normal, shut)?;
     see_all(&mut watch, front)?;
@@ -76,7 +78,7 @@ fn settle_one(
     rest: &[Marked],
 ) -> Result<(), WatchFault>
     ensures settled { OnOk result (SettlesOne (description_in normal.now) (shut_history (description_in normal.now) (shut_down shut)) marked.now rest.now settled.old.items settled.new.items) }
-    ensures refused { IfErr result (λ fault. fault ≡ TooManyWays → (bus : SeenBus) × IsMaybeGapOn bus marked.now) }
+    ensures refused { IfErr result (λ fault. fault ≡ TooManyWays → ((bus : SeenBus) × IsMaybeGapOn bus marked.now) × HasManyWays (maybe_in (settled.old.items ++ rest.now))) }
 {
     match maybe_gap(marked) {
         None => settled.push(*marked)?,
@@ -98,7 +100,7 @@ pub fn settle(
     recording: &[Marked],
 ) -> Result<Vec<Marked>, WatchFault>
     ensures settled { IfOk result (λ it. IsSettled (description_in normal.now) (shut_history (description_in normal.now) (shut_down shut)) recording.now it.items) }
-    ensures refused { IfErr result (λ fault. fault ≡ TooManyWays → HasMaybeGap recording.now) }
+    ensures refused { IfErr result (λ fault. fault ≡ TooManyWays → HasManyWays (maybe_in recording.now)) }
 {
     let mut settled = Vec::new(alloc);
     for (number, marked) in recording.iter().enumerate() {

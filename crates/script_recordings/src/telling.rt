@@ -7,7 +7,7 @@ ghost use Rattle.terminal_rules.specs.declared.event.Event.{Event as ScriptEvent
 ghost use Rattle.recorded_terminal.specs.Behaviour.{IsBehaviourAfter};
 ghost use Rattle.recorded_terminal.specs.Follows.{shut_down};
 ghost use Rattle.recorded_terminal.specs.Judged.{IsJudgedBy};
-ghost use Rattle.recorded_terminal.specs.Marks.{HasMaybeGap, seen_in};
+ghost use Rattle.recorded_terminal.specs.Marks.{HasManyWays, maybe_in, seen_in};
 ghost use Rattle.recorded_terminal.specs.declared.watch.WatchFault.TheVariants.{TooManyWays};
 ghost use Rattle.script_lines.specs.EventLine.{event_line, script_text};
 ghost use Rattle.script_recordings.specs.Seen.{StatesNoRecording};
@@ -95,7 +95,7 @@ fn fresh_part_of(
     recording: &[Marked],
 ) -> Result<Option<FreshPart>, WatchFault>
     ensures judged { IfOk result (IsJudgedBy (description_in normal.now) recording.now) }
-    ensures refused { IfErr result (λ fault. fault ≡ TooManyWays → HasMaybeGap recording.now) }
+    ensures refused { IfErr result (λ fault. fault ≡ TooManyWays → HasManyWays (maybe_in recording.now)) }
 {
     let mut watch = LaterWatch::new(alloc, normal.setup(), *normal)?;
     'sightings: for marked in recording {

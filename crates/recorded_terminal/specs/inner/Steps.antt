@@ -1,5 +1,5 @@
 -- How the ways of a recording take what is seen next.
-use Rattle.std.specs.Prelude.{◌≡◌, ◌≤◌, ◌⊎◌, ℕ, Bool, true, Option, Some, None, List, [], ◌∷◌, ◌++◌}
+use Rattle.std.specs.Prelude.{◌≡◌, ◌≤◌, ◌<◌, ◌*◌, ◌⊎◌, ℕ, Bool, true, Option, Some, None, List, [], ◌∷◌, ◌++◌, length}
 use Rattle.std.specs.List.{AllByRecursion}
 use Rattle.bus_word.specs.declared.word.Bus.{Bus}
 use Rattle.bus_word.specs.declared.cell.Cell.{Cell}
@@ -12,12 +12,12 @@ use Rattle.terminal_recordings.specs.MaybeGaps.{MaybeSighting, Seen, MaybeGap, I
 use Rattle.recorded_terminal.specs.declared.watch.Marked.{Marked}
 use Rattle.recorded_terminal.specs.declared.way.Way.{Way}
 use Rattle.recorded_terminal.specs.declared.ways.Instead.{Instead}
-use Rattle.recorded_terminal.specs.Marks.{maybe, maybe_in, IsMaybeGapOn}
+use Rattle.recorded_terminal.specs.Marks.{maybe, maybe_in, most_ways, IsMaybeGapOn}
 use Rattle.recorded_terminal.specs.Ways.{AnyOf, WaysHaveMet, Goes, CanGoOn, AnyCanGoOn, AreWays, masked_with}
 
--- a way is pushed, or has met one that is there
+-- a way is pushed, where there is room for it, or has met one that is there
 abbrev pub Keeps : {L : Type 0} → (L → Cell → Bool) → List (Way L) → Way L → List (Way L) → Type 0
-Keeps is_legal olds way news = (news ≡ olds ++ way ∷ []) ⊎ ((news ≡ olds) × AnyOf (WaysHaveMet is_legal way) olds)
+Keeps is_legal olds way news = ((news ≡ olds ++ way ∷ []) × (length olds < most_ways)) ⊎ ((news ≡ olds) × AnyOf (WaysHaveMet is_legal way) olds)
 
 -- what was sent on the first way
 abbrev pub SentFirst : {L : Type 0} → List (Way L) → Option Sent → Type 0
@@ -28,6 +28,7 @@ SentFirst (w ∷ ws) sent = sent ≡ w.sent
 pub record LeftOf {L : Type 0} (is_legal : L → Cell → Bool) (olds news : List (Way L)) : Type 0 where
   pub goes : (P : Description) (h : List Event) (ms : List Marked) → AllByRecursion (λ w. w.is_left ≡ true → Goes is_legal P h ms w) olds → AllByRecursion (Goes is_legal P h ms) news
   pub goes_on : (P : Description) (more : List MaybeSighting) → AnyOf (λ w. (w.is_left ≡ true) × CanGoOn is_legal P more w) olds → AnyCanGoOn is_legal P more news
+  pub few : length news ≤ length olds
 
 -- a sighting is followed by others, and by more behind them, of which this is the next status word
 pub record AreToldNext (status : Option ℕ) (m : Marked) (more : List MaybeSighting) (later : List Sighting) : Type 0 where
@@ -41,6 +42,8 @@ pub record Splits {L : Type 0} (is_legal : L → Cell → Bool) (b : Bus) (statu
   pub goes_on : (P : Description) (h : List Event) (ms : List Marked) (m : Marked) (more : List MaybeSighting) (later : List Sighting) → P.address ≤ 30 → IsMaybeGapOn b m → AreToldNext status m more later →
       AllByRecursion (Goes is_legal P h ms) olds → AnyCanGoOn is_legal P (MaybeGap b ∷ more) olds → AnyCanGoOn is_legal P more news
   pub some : (olds ≡ [] → ⊥) → news ≡ [] → ⊥
+  pub few : length news ≤ 2 * length olds
+  pub most : length olds ≤ most_ways → length news ≤ most_ways
 
 -- the ways with a sighting more: what comes next is explained from one of them on, if it is with the sighting before it
 pub record StepsTo {L : Type 0} (is_legal : L → Cell → Bool) (P : Description) (h : List Event) (ms : List Marked) (m : Marked) (status : Option ℕ) (olds news : List (Way L)) : Type 0 where

@@ -1,11 +1,12 @@
-use Rattle.std.proofs.Common.{inl, length-take-le, arith, length, ◌≡◌, ◌+◌, ◌++◌, ◌∷◌, [], List, suc, take, drop, add-one, ap, sym, subst, ◌∙◌, take-append-drop, take_all}
+use Rattle.std.proofs.Common.{length-take-le, arith, length, ◌≡◌, ◌+◌, ◌++◌, ◌∷◌, [], List, suc, take, drop, add-one, ap, sym, subst, ◌∙◌, take-append-drop, take_all, append_assoc}
 use Rattle.std.proofs.lemmas.Result.{err_from_is_err_and}
 use Rattle.recorded_terminal.specs.declared.watch.Marked.{Marked}
-use Rattle.recorded_terminal.specs.Marks.{HasMaybeGap}
+use Rattle.recorded_terminal.specs.Marks.{maybe_in, HasManyWays}
 use Rattle.recorded_terminal.specs.inner.Followed.{AreFollowed}
 use Rattle.recorded_terminal.specs.inner.Steps.{SeesNext}
+use Rattle.recorded_terminal.proofs.GapLaws.{many_front, many_split}
 use Rattle.recorded_terminal.proofs.WayLaws.{cut_of, take_more}
-use Rattle.recorded_terminal.proofs.WatchLaws.{none_followed, followed_more, ends_at, open_back}
+use Rattle.recorded_terminal.proofs.WatchLaws.{none_followed, followed_more, ends_at}
 use Rattle.recorded_terminal.proofs.watch.follow.Goals as goal
 
 pub loop-number-init : goal.loop-number-init
@@ -48,4 +49,9 @@ returns-in_err-instead-clause-refused g c =
     let m : Marked = c.index-waiting-number.result in
     let cut : drop n waiting ≡ m ∷ drop (suc n) waiting = cut_of waiting n m c.loop-number-test.true c.index-waiting-number.is in
     let p = err_from_is_err_and c.from_residual.result c.from_residual.ensures.1 in
-    rw (p.1, p.2) (λ same. subst HasMaybeGap (take-append-drop n waiting) (open_back (take n waiting) (drop n waiting) (subst HasMaybeGap (sym cut) (inl (c.in_err-instead.ensures.refused same)))))
+    rw (p.1, p.2) (λ same P h ms low ways.
+    let front : List Marked = ms ++ take n waiting in
+    let many = c.in_err-instead.ensures.refused same in
+    let whole : (front ++ m ∷ []) ++ drop (suc n) waiting ≡ ms ++ waiting =
+    append_assoc front (m ∷ []) (drop (suc n) waiting) ∙ (append_assoc ms (take n waiting) (m ∷ drop (suc n) waiting) ∙ ap (λ l. ms ++ l) (ap (λ l. take n waiting ++ l) (sym cut) ∙ take-append-drop n waiting)) in
+    subst (λ l. HasManyWays (maybe_in l)) whole (many_front (front ++ m ∷ []) (drop (suc n) waiting) (many_split front m many.0.0 (length c.loop-number.ways.items) many.0.1 (c.loop-number.invariant P h ms low ways).ways.few many.1)))

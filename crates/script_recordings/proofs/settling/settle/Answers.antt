@@ -1,15 +1,14 @@
-use Rattle.std.proofs.Common.{arith, ◌≡◌, ◌∙◌, ◌++◌, ◌∷◌, [], ◌+◌, inl, List, suc, take, drop, add-one, sym, subst, take_all, take-append-drop}
+use Rattle.std.proofs.Common.{arith, ◌≡◌, ◌∙◌, ◌++◌, ◌∷◌, [], ◌+◌, List, suc, take, drop, add-one, sym, subst, take_all, take-append-drop}
 use Rattle.std.proofs.lemmas.Result.{err_from_is_err_and}
 use Rattle.std.proofs.lemmas.List.{take_rest}
 use Rattle.bus_legal.specs.Parts.{description_in}
 use Rattle.terminal_recordings.specs.Later.{shut_history}
 use Rattle.recorded_terminal.specs.declared.watch.Marked.{Marked}
 use Rattle.recorded_terminal.specs.Follows.{shut_down}
-use Rattle.recorded_terminal.specs.Marks.{HasMaybeGap}
+use Rattle.recorded_terminal.specs.Marks.{maybe_in, HasManyWays}
 use Rattle.recorded_terminal.proofs.WayLaws.{cut_of, take_more}
-use Rattle.recorded_terminal.proofs.WatchLaws.{open_back}
 use Rattle.script_recordings.specs.inner.Settled.{SettlesOne}
-use Rattle.script_recordings.proofs.SettleLaws.{SettledSoFar, one_settled, all_settled, none_left}
+use Rattle.script_recordings.proofs.SettleLaws.{SettledSoFar, one_settled, all_settled, none_left, many_settled}
 use Rattle.script_recordings.proofs.settling.settle.Goals as goal
 
 pub loop-number-preserved : goal.loop-number-preserved
@@ -30,10 +29,10 @@ pub returns-in_err-settle_one-clause-refused : goal.returns-in_err-settle_one-cl
 returns-in_err-settle_one-clause-refused c =
     let ms : List Marked = c.args.recording.now in
     let n = c.loop-number.number in
-    let m : Marked = c.index-recording-number.result in
-    let cut : drop n ms ≡ m ∷ drop (suc n) ms = cut_of ms n m c.loop-number-test.true c.index-recording-number.is in
     let p = err_from_is_err_and c.from_residual.result c.from_residual.ensures.1 in
-    rw (p.1, p.2) (λ same. subst HasMaybeGap (take-append-drop n ms) (open_back (take n ms) (drop n ms) (subst HasMaybeGap (sym cut) (inl (c.in_err-settle_one.ensures.refused same)))))
+    rw (p.1, p.2) (λ same. subst (λ l. HasManyWays (maybe_in l)) (take-append-drop (n + 1) ms)
+    (many_settled c.loop-number.settled.items (take (n + 1) ms) (drop (n + 1) ms) c.loop-number.invariant.seen
+    (subst (λ l. HasManyWays (maybe_in (c.loop-number.settled.items ++ l))) (take_rest ms (n + 1)) (c.in_err-settle_one.ensures.refused same).1)))
 
 pub returns-clause-settled : goal.returns-clause-settled
 returns-clause-settled c =

@@ -21,7 +21,7 @@ returns-in_ok-push-in-Some-clause-settled c =
         behind = c.in_ok-push-in-Some.ensures.items;
         needed = λ x.
             let explained : c.in_ok-is_explained-in-Some.field-0 ≡ true =
-            c.in_ok-is_explained-in-Some.ensures.1 (subst (λ (l : List Marked). IsExplainedSomehow D h (maybe_in (l ++ c.args.rest.now))) (sym c.as_slice.ensures.value) x) in
+            c.in_ok-is_explained-in-Some.ensures.explained.1 (subst (λ (l : List Marked). IsExplainedSomehow D h (maybe_in (l ++ c.args.rest.now))) (sym c.as_slice.ensures.value) x) in
             let none = c.if-not-branch.true in
             absurd (cc);
       }),

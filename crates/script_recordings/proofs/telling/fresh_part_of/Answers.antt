@@ -4,10 +4,11 @@ use Rattle.bus_legal.specs.Parts.{description_in}
 use Rattle.bus_legal.specs.Tables.{tables_say}
 use Rattle.bus_legal.proofs.NormalLaws.{set_up_normal}
 use Rattle.recorded_terminal.specs.declared.watch.Marked.{Marked}
-use Rattle.recorded_terminal.specs.Marks.{HasMaybeGap}
+use Rattle.recorded_terminal.specs.Marks.{maybe_in, HasManyWays}
 use Rattle.recorded_terminal.specs.Judged.{CanBegin, WatchesLater}
+use Rattle.recorded_terminal.proofs.GapLaws.{many_front}
 use Rattle.recorded_terminal.proofs.WayLaws.{cut_of, take_more, if_ok, if_err}
-use Rattle.script_recordings.proofs.SinceLaws.{can_begin, open_front}
+use Rattle.script_recordings.proofs.SinceLaws.{can_begin}
 use Rattle.script_recordings.proofs.telling.fresh_part_of.Goals as goal
 
 pub sightings-preserved : goal.sightings-preserved
@@ -48,4 +49,4 @@ returns-in_err-see-clause-refused c =
     (can_begin v c.setup.ensures.normal)) in
     let r = c.from_residual-in_err-see in
     let p = err_from_is_err_and r.result r.ensures.1 in
-    rw (p.1, p.2) (λ same. subst HasMaybeGap whole (open_front (take n ms ++ m ∷ []) (drop (suc n) ms) (c.in_err-see.ensures.refused same (description_in v) (take n ms) before)))
+    rw (p.1, p.2) (λ same. subst (λ l. HasManyWays (maybe_in l)) whole (many_front (take n ms ++ m ∷ []) (drop (suc n) ms) (c.in_err-see.ensures.refused same (description_in v) (take n ms) before)))

@@ -4,7 +4,7 @@ use Rattle.bus_legal.specs.Description.{Description}
 use Rattle.bus_legal.specs.Parts.{description_in}
 use Rattle.bus_legal.specs.Reach.{reach}
 use Rattle.recorded_terminal.specs.declared.watch.Marked.{Marked}
-use Rattle.recorded_terminal.specs.Marks.{HasMaybeGap}
+use Rattle.recorded_terminal.specs.Marks.{maybe_in, HasManyWays}
 use Rattle.script_lines.specs.EventLine.{script_text}
 use Rattle.script_recordings.specs.inner.Plays.{PlaysSeen}
 use Rattle.script_recordings.specs.inner.Settled.{IsSettled}
@@ -28,4 +28,4 @@ returns-in_err-settled-clause-refused g c =
     let r = c.from_residual-in_err-settled in
     let p = err_from_is_err_and r.result r.ensures.1 in
     rw (p.1, p.2) (settle_refused (g.B.Read.remaining c.args.input) c.in_ok-recording.recording.items _ c.in_ok-recording.ensures.read
-    (λ same. subst HasMaybeGap c.as_slice.ensures.value (c.in_err-settled.ensures.refused same)))
+    (λ same. subst (λ l. HasManyWays (maybe_in l)) c.as_slice.ensures.value (c.in_err-settled.ensures.refused same)))

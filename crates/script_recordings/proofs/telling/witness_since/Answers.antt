@@ -1,4 +1,4 @@
-use Rattle.std.proofs.Common.{◌∙◌, None, List, drop, ap, subst}
+use Rattle.std.proofs.Common.{◌≡◌, ◌∙◌, None, List, take, drop, take-append-drop, ap, subst}
 use Rattle.std.proofs.lemmas.Result.{err_from_is_err_and}
 use Rattle.bus_legal.specs.Parts.{description_in}
 use Rattle.terminal_recordings.specs.Later.{shut_history}
@@ -6,11 +6,12 @@ use Rattle.recorded_terminal.specs.declared.watch.Marked.{Marked}
 use Rattle.recorded_terminal.specs.Behaviour.{IsBehaviourAfter}
 use Rattle.recorded_terminal.specs.Follows.{shut_down}
 use Rattle.recorded_terminal.specs.Judged.{IsJudged, IsJudgedBy}
-use Rattle.recorded_terminal.specs.Marks.{HasMaybeGap, seen_in}
+use Rattle.recorded_terminal.specs.Marks.{maybe_in, seen_in, HasManyWays}
 use Rattle.script_lines.specs.EventLine.{script_text}
 use Rattle.script_recordings.specs.inner.Settled.{IsSettled}
+use Rattle.recorded_terminal.proofs.GapLaws.{many_back}
 use Rattle.script_recordings.proofs.ReadLaws.{settle_refused, memory_refused}
-use Rattle.script_recordings.proofs.SinceLaws.{no_part, later_witness_by, open_back_of}
+use Rattle.script_recordings.proofs.SinceLaws.{no_part, later_witness_by}
 use Rattle.script_recordings.proofs.telling.witness_since.Goals as goal
 
 pub returns-in_default-clause-plays : goal.returns-in_default-clause-plays
@@ -35,14 +36,18 @@ returns-in_err-part-clause-refused g c =
     let r = c.from_residual-in_err-part in
     let p = err_from_is_err_and r.result r.ensures.1 in
     rw (p.1, p.2) (settle_refused (g.B.Read.remaining c.args.input) c.in_ok-recording.recording.items _ c.in_ok-recording.ensures.read
-    (λ same. subst HasMaybeGap c.as_slice.ensures.value (c.in_err-part.ensures.refused same)))
+    (λ same. subst (λ l. HasManyWays (maybe_in l)) c.as_slice.ensures.value (c.in_err-part.ensures.refused same)))
 
 pub returns-in_err-settled-clause-refused : goal.returns-in_err-settled-clause-refused
 returns-in_err-settled-clause-refused g c =
     let r = c.from_residual-in_err-settled in
     let p = err_from_is_err_and r.result r.ensures.1 in
     rw (p.1, p.2) (settle_refused (g.B.Read.remaining c.args.input) c.in_ok-recording.recording.items _ c.in_ok-recording.ensures.read
-    (λ same. open_back_of c.in_ok-recording.recording.items c.in-Some.part.before (subst HasMaybeGap (c.behind-behind.ensures ∙ ap (drop c.in-Some.part.before) c.as_slice-2.ensures.value) (c.in_err-settled.ensures.refused same))))
+    (λ same.
+    let ms : List Marked = c.in_ok-recording.recording.items in
+    let n = c.in-Some.part.before in
+    let part : c.behind-behind.result.now ≡ drop n ms = c.behind-behind.ensures ∙ ap (drop n) c.as_slice-2.ensures.value in
+    subst (λ l. HasManyWays (maybe_in l)) (take-append-drop n ms) (many_back (take n ms) (drop n ms) (subst (λ l. HasManyWays (maybe_in l)) part (c.in_err-settled.ensures.refused same)))))
 
 pub returns-in_err-events-clause-refused : goal.returns-in_err-events-clause-refused
 returns-in_err-events-clause-refused g c =

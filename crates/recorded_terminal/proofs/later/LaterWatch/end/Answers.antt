@@ -1,9 +1,10 @@
-use Rattle.std.proofs.Common.{◌∷◌, inr, sym, subst}
+use Rattle.std.proofs.Common.{◌∙◌, ◌++◌, ◌∷◌, [], List, append_assoc, sym, subst}
 use Rattle.std.proofs.lemmas.Result.{err_from_is_err_and}
-use Rattle.recorded_terminal.specs.Marks.{maybe_in, HasMaybeGap}
+use Rattle.recorded_terminal.specs.declared.watch.Marked.{Marked}
+use Rattle.recorded_terminal.specs.Marks.{maybe_in, HasManyWays}
 use Rattle.recorded_terminal.specs.Judged.{WatchesPart}
+use Rattle.recorded_terminal.proofs.GapLaws.{many_back}
 use Rattle.recorded_terminal.proofs.LaterLaws.{none_judged, begun_of, judged}
-use Rattle.recorded_terminal.proofs.WatchLaws.{open_back}
 use Rattle.recorded_terminal.proofs.later.LaterWatch.end.Goals as goal
 
 pub returns-in-Sought-clause-judged : goal.returns-in-Sought-clause-judged
@@ -21,5 +22,6 @@ returns-in_err-best g c =
       judged = tt;
       refused = λ same P ms watches.
           let i = begun_of g.L.Legality.is_legal P ms c.args.self c.args.self.part c.in_default.not-Sought watches.watches in
-          subst HasMaybeGap (sym i.all) (open_back i.front (i.pause ∷ i.part) (inr (c.in_err-best.ensures.refused same P i.part i.watches)));
+          let front : List Marked = i.front ++ i.pause ∷ [] in
+          subst (λ l. HasManyWays (maybe_in l)) (append_assoc i.front (i.pause ∷ []) i.part ∙ sym i.all) (many_back front i.part (c.in_err-best.ensures.refused same P i.part i.watches));
     })

@@ -1,8 +1,9 @@
-use Rattle.std.proofs.Common.{◌∙◌, ◌++◌, ◌∷◌, [], inr, append_assoc, refl, sym, ap, subst, rules}
+use Rattle.std.proofs.Common.{◌≡◌, ◌∙◌, ◌++◌, ◌∷◌, [], List, append_assoc, refl, sym, ap, subst, rules}
 use Rattle.std.proofs.lemmas.Result.{err_from_is_err_and}
-use Rattle.recorded_terminal.specs.Marks.{HasMaybeGap}
+use Rattle.recorded_terminal.specs.declared.watch.Marked.{Marked}
+use Rattle.recorded_terminal.specs.Marks.{maybe_in, HasManyWays}
+use Rattle.recorded_terminal.proofs.GapLaws.{many_back}
 use Rattle.recorded_terminal.proofs.LaterLaws.{sees_sought, sees_begun, sees_more, begun_of}
-use Rattle.recorded_terminal.proofs.WatchLaws.{open_back}
 use Rattle.recorded_terminal.proofs.later.LaterWatch.see.Goals as goal
 
 pub returns-in_default-Sought-clause-sees : goal.returns-in_default-Sought-clause-sees
@@ -33,6 +34,7 @@ returns-in_err-see-in_default-2 g c =
       sees = tt;
       refused = λ same P ms watches.
           let i = begun_of g.L.Legality.is_legal P ms c.args.self.now c.args.self.now.part c.in_default-2.not-Sought-0 watches.watches in
-          subst HasMaybeGap (sym (ap (λ l. l ++ m ∷ []) i.all ∙ append_assoc i.front (i.pause ∷ i.part) (m ∷ [])))
-          (open_back i.front (i.pause ∷ (i.part ++ m ∷ [])) (inr (c.in_err-see-in_default-2.ensures.refused same P i.part i.watches)));
+          let front : List Marked = i.front ++ i.pause ∷ [] in
+          let whole : front ++ (i.part ++ m ∷ []) ≡ ms ++ m ∷ [] = sym (append_assoc front i.part (m ∷ [])) ∙ ap (λ l. l ++ m ∷ []) (append_assoc i.front (i.pause ∷ []) i.part ∙ sym i.all) in
+          subst (λ l. HasManyWays (maybe_in l)) whole (many_back front (i.part ++ m ∷ []) (c.in_err-see-in_default-2.ensures.refused same P i.part i.watches));
     })

@@ -1,10 +1,10 @@
-use Rattle.std.proofs.Common.{◌+◌, ◌<◌, ◌^◌, [], append-nil, length, None, sym, subst}
-use Rattle.recorded_terminal.specs.Marks.{HasMaybeGap}
+use Rattle.std.proofs.Common.{◌∙◌, ◌++◌, ◌+◌, ◌<◌, ◌^◌, length, None, ap, sym, subst}
+use Rattle.recorded_terminal.specs.Marks.{maybe_in, HasManyWays}
 use Rattle.recorded_terminal.specs.Watched.{WatchesBy, IsFollowing}
 use Rattle.recorded_terminal.specs.Ways.{AreWays}
 use Rattle.recorded_terminal.specs.inner.Followed.{Followed}
 use Rattle.recorded_terminal.proofs.WayLaws.{if_ok, if_err}
-use Rattle.recorded_terminal.proofs.WatchLaws.{ended, decided_by, open_waiting}
+use Rattle.recorded_terminal.proofs.WatchLaws.{ended, decided_by}
 use Rattle.recorded_terminal.proofs.watch.Watch.end.Goals as goal
 
 pub returns-in-Some-clause-first : goal.returns-in-Some-clause-first
@@ -25,6 +25,5 @@ returns-clause-refused g c =
     if_err c.follow.result _ _
     (λ fault x same P h ms watches.
     let i : IsFollowing g.L.Legality.is_legal P h ms c.args.self = subst (λ o. WatchesBy g.L.Legality.is_legal P h ms c.args.self o) c.in-None.is watches.1 in
-    subst HasMaybeGap (append-nil ms)
-    (open_waiting g.L.Legality.is_legal P h ms [] c.args.self i (subst HasMaybeGap (sym (append-nil c.args.self.waiting.items)) (subst HasMaybeGap c.as_slice.ensures.value (x same)))))
+    subst (λ l. HasManyWays (maybe_in l)) (ap (λ l. i.followed ++ l) c.as_slice.ensures.value ∙ sym i.all) (x same P h i.followed watches.0 i.ways))
     c.follow.ensures.refused

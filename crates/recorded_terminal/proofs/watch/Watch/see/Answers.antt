@@ -1,7 +1,7 @@
-use Rattle.std.proofs.Common.{◌∙◌, ◌∷◌, [], refl, subst, rules}
+use Rattle.std.proofs.Common.{◌∙◌, refl, rules}
 use Rattle.std.proofs.lemmas.Result.{err_from_is_err_and}
-use Rattle.recorded_terminal.specs.Marks.{HasMaybeGap}
-use Rattle.recorded_terminal.proofs.WatchLaws.{found_stays, waits_on, sees_status, follows_still, open_waiting}
+use Rattle.recorded_terminal.specs.Watched.{IsFollowing}
+use Rattle.recorded_terminal.proofs.WatchLaws.{found_stays, waits_on, sees_status, follows_still, many_waiting}
 use Rattle.recorded_terminal.proofs.watch.Watch.see.Goals as goal
 
 pub returns-then-is_some-clause-sees : goal.returns-then-is_some-clause-sees
@@ -30,6 +30,6 @@ returns-in_err-self-clause-refused g c =
     let r = c.from_residual-in_err-self in
     let p = err_from_is_err_and r.result r.ensures.1 in
     rw (p.1, p.2) (λ same P h ms watches.
-    open_waiting g.L.Legality.is_legal P h ms (c.args.marked ∷ []) c.args.self.now
-    (follows_still g.L.Legality.is_legal P h ms c.args.self.now c.args.self.now.first (search rules) watches.1)
-    (subst HasMaybeGap (c.as_slice.ensures.value ∙ c.in_ok-push.ensures.items) (c.in_err-self.ensures.refused same)))
+    let i : IsFollowing g.L.Legality.is_legal P h ms c.args.self.now = follows_still g.L.Legality.is_legal P h ms c.args.self.now c.args.self.now.first (search rules) watches.1 in
+    many_waiting g.L.Legality.is_legal P h ms c.args.marked c.args.self.now i c.as_slice.result.now (c.as_slice.ensures.value ∙ c.in_ok-push.ensures.items)
+    (c.in_err-self.ensures.refused same P h i.followed watches.0 i.ways))
