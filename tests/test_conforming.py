@@ -1,8 +1,8 @@
 """Tables of units that conform, and of units with one fault, judged by `rt1553-tool recording` and `verify --any-subsystem`.
 
 `bus_times.py` plays units that conform on two buses, in real times, with any subsystem, and writes what a monitor tells of them, in both
-forms. No such table may be convicted, but for those whose times leave open what came first; none of words may be refused, and of messages
-just those whose commands overlap on two buses. Then each unit has one fault.
+forms. No such table may be convicted. Refused may be those in which two words end at once on two buses, and of messages those whose commands
+overlap there. Then each unit has one fault.
 `decided`, which knows the events in their true order, tells whether some behaviour of the subsystem explains it; most of the others have to
 be found.
 
@@ -12,13 +12,13 @@ import os
 
 import bus_times
 import pytest
-from bus_times import FAULTS, FORMS, PROFILES, faulty_run, resolution_of, run_of
+from bus_times import FAULTS, FORMS, PROFILES, faulty_run, run_of
 
 pytestmark = pytest.mark.slow
 TABLES = int(os.environ.get("CONFORMING_TABLES", "1600"))
 FAULTY = 320
-# times that leave open what came first (`bus_times.left_open`): a unit that conforms may fail there
-EXCEPTED = ("close", "undecided")
+# why a table of words may be refused
+UNCLEAR = "end within 1 microsecond"
 
 
 def seeds_of(number, tables):
@@ -37,12 +37,10 @@ def test_units_conform(number, count_runs):
 @pytest.mark.parametrize("number", PROFILES)
 def test_conforming(shipped, number, form, count_runs, tmp_path):
     bus_times.write_profiles(tmp_path)
-    said = {}
-    for seed in seeds_of(number, TABLES):
-        one = run_of(seed)
-        if bus_times.left_open(one, form, resolution_of(seed)) not in EXCEPTED:
-            said[seed] = bus_times.judged(shipped.tool, tmp_path, seed, one, form)
-    assert {seed: it for seed, it in said.items() if it and (it[0] == "failed" or it[0] == "refused" and form == "words")} == {}
+    said = {seed: bus_times.judged(shipped.tool, tmp_path, seed, run_of(seed), form) for seed in seeds_of(number, TABLES)}
+    assert {seed: it for seed, it in said.items() if it and it[0] == "failed"} == {}
+    if form == "words":
+        assert {seed: it for seed, it in said.items() if it[0] == "refused" and UNCLEAR not in it[1]} == {}
     count_runs(sum(it is not None for it in said.values()))
 
 

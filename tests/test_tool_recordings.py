@@ -13,6 +13,7 @@ FLAGS = "A c 2c61\nA gap\nslot\n#> A s 2d00\nA c 2c61\nA gap\nslot\n#> A s 2c05\
 LEFT_OUT = "hands: warning: what is handed over is left out: a bus does not show it\n"
 NONE_FOUND = "{0}: no profile is found that explains this recording\n"
 # a transfer to terminal 5 whose transmitter is late
+BESIDE = "A c 2822\nA d 0001\n#? A gap\nB c 2c02\nA gap\nB gap\nslot\n"
 LATE = "A c 2821\nA c 3421\nA gap\n#? A gap\nA c 3000\nA d 0001\nA gap\n"
 # a message to terminal 5 without its data word, which may have ended
 CUT = "A c 2821\n#? A gap\n"
@@ -56,6 +57,8 @@ RECORDINGS = with_files(
         "slots": f"{ASK}#> A s 2800\n#? slot\n",
         "stated": f"{ASK}#> A s 2800\n#? A gap\n#> hand sync\n",
         "ways": "A gap\n#? A gap\n" * 3 + f"{ASK}#> A s 2800\n",
+        "before": f"{BESIDE}#> B s 2c00\n",
+        "behind": f"{BESIDE}#> B s 2800\n",
         "most": f"{CUT * 6}{PAUSE}{ASK}#> A s 2c00\n",
         "more": f"{CUT * 7}{PAUSE}{ASK}#> A s 2c00\n",
     },
@@ -75,6 +78,8 @@ RECORDINGS = with_files(
     Row("64 ways", "verify --any-subsystem receives most"),
     Row("more ways", "verify --any-subsystem receives more", 2, errors="more: gaps that may have come leave too many ways open\n"),
     Row("a gap that may have come, in a test", "verify five ways"),
+    Row("a gap that came before a command on the other bus, or behind it", "verify --any-subsystem --summary receives before behind", 0,
+        "before: passed (answers: 1)\nbehind: passed (answers: 1)\nno clause: 2 of 2 scripts pass\nall: 2 of 2 scripts pass\n"),
     Row("a long recording", "verify --any-subsystem --summary five long", 0,
         "long: passed (answers: 40000)\nno clause: 1 of 1 scripts pass\nall: 1 of 1 scripts pass\n", files={"long": LONG}),
     Row("a fault at its end", "verify --any-subsystem five long", 1,
@@ -217,6 +222,10 @@ SHOWN = with_files(
 )
 
 # what `recording` makes of the tables of a monitor
+TIED = (
+    "table: row 3, column 1: a word of this row and one above, on the other bus, end within 1 microsecond, and what the terminal does depends "
+    "on their order; rows written: 1\n"
+)
 HEAD = "time,bus,sync,word\n"
 WORDS = f"{HEAD}0,A,c,2c02\n24,A,s,2800\n"
 TABLES = with_files(
@@ -231,6 +240,10 @@ TABLES = with_files(
         "waits.csv": f"{HEAD}0,A,c,2822\n20,A,c,3482\n110,A,c,3062\n130,A,d,0001\n150,A,d,0002\n190,A,c,2c02\n216,A,s,2c00\n",
         "slow.csv": f"{HEAD}0,A,c,2862\n20,A,c,3462\n70,A,s,3000\n90,A,d,0001\n110,A,d,0002\n1000,A,c,2c02\n1024,A,s,2c00\n",
         "superseded.csv": f"{HEAD}0,A,c,2c64\n26,A,s,2800\n46,A,d,0000\n60,B,c,2c02\n66,A,d,0000\n86,B,s,2800\n",
+        "dropped.csv": f"{HEAD}0,A,c,2c64\n26,A,s,2800\n45.5,B,c,2c02\n46,A,d,0000\n66,A,d,0000\n89.5,B,s,2800\n",
+        "open.csv": f"{HEAD}0,A,c,2822\n20,A,d,0001\n25,B,c,2c02\n49,B,s,2800\n",
+        "tie.csv": f"{HEAD}0,A,c,2c02\n0.5,B,c,2c02\n",
+        "tied.csv": "time,bus,command,status\n0,A,2c02,2800\n0.5,B,2c02,\n",
         "short.csv": "time,bus,command,data,status\n0,A,2c64,0000 0000,2800\n60,B,2c02,,2800\n",
         "fast.csv": "time,bus,command,command2,data,status\n0,A,2821,3421,0001,3000\n65,B,2c02,,,2800\n",
         "untold.csv": "time,bus,command,command2,status\n0,A,2862,3462,\n90,B,2c02,,2c00\n",
@@ -268,6 +281,15 @@ TABLES = with_files(
     Row("a command that is heard within a reply on the other bus", "recording superseded.csv --address 5", 0,
         "# 0\nA c 2c64\nA gap\n# 26\nslot\n#> A s 2800\n# 46\nslot\n#> A d 0000\n# 66\nslot\n#> A d 0000\n# 60\nB c 2c02\nB gap\n# 86\n"
         "slot\n#> B s 2800\nA gap\nB gap\n"),
+    Row("a command that ends when the last word of a reply begins", "recording dropped.csv --address 5", 0,
+        "# 0\nA c 2c64\nA gap\n# 26\nslot\n#> A s 2800\n# 46\nslot\n#> A d 0000\n# 66\nslot\n#> A d 0000\n# 45.5\nB c 2c02\n"
+        "A gap\nB gap\n# 89.5\nslot\n#> B s 2800\nB gap\nslot\n"),
+    Row("a gap that may have come before a command on the other bus", "recording open.csv --address 5", 0,
+        "# 0\nA c 2822\n# 20\nA d 0001\n#? A gap\n# 25\nB c 2c02\nA gap\nB gap\n# 49\nslot\n#> B s 2800\nB gap\nslot\n"),
+    Row("commands on two buses at once", "recording tie.csv --address 5", 2,
+        "# 0\nA c 2c02\n#! row 3 was refused; rows written: 1\n", f"tie.csv: {TIED}"),
+    Row("the same of messages", "recording tied.csv --address 5", 2,
+        "# 0\nA c 2c02\nA gap\nslot\n#> A s 2800\n#! row 3 was refused; rows written: 1\n", f"tied.csv: {TIED}"),
     Row("a table of messages", "recording messages.csv --address 5", 0,
         "# 0\nA c 2862\nA d 0001\nA d 0002\nA gap\nslot\n#> A s 2800\nA gap\nB gap\nslot\nA gap\nB gap\nslot\n# 500\nB c 3822\n"
         "B c 2c22\nB gap\nslot\n#> B s 2800\nslot\n#> B d beef\nB gap\nB c 3800\nB gap\n"),

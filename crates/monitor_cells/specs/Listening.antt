@@ -47,15 +47,15 @@ later_end None e = e
 later_end (Some d) None = Some d
 later_end (Some d) (Some e) = Some (max d e)
 
--- an end, if there was one, was before this time
-abbrev pub is_over_before : Option ℕ → ℕ → Bool
-is_over_before None time = true
-is_over_before (Some end) time = nat_lt end time
-
--- a word begins more than 1 microsecond before this end, if there was one
+-- a time is more than 1 microsecond before this end, if there was one
 abbrev pub is_before_end : ℕ → Option ℕ → Bool
 is_before_end time None = false
 is_before_end time (Some end) = nat_lt (min (time + 1000) (2 ^ 64 - 1)) end
+
+-- an end, if there was one, was more than 1 microsecond before this time
+abbrev pub is_over_before : Option ℕ → ℕ → Bool
+is_over_before None time = true
+is_over_before (Some end) time = is_before_end end (Some time)
 
 -- a silence on both buses that is longer is a pause: no terminal replies any more, and each bus had its gap
 abbrev pub pause_of : RecordingSetup → ℕ

@@ -41,7 +41,7 @@ pub fn word_end(time: u64) -> u64
     time.saturating_add(WORD_TIME)
 }
 
-/// Whether a word that begins at this time begins before this end, if there was one, by more than what rounding makes of it.
+/// Whether a time is before this end, if there was one, by more than what rounding makes of it.
 pub fn is_before_end(time: u64, end: Option<u64>) -> bool
     ensures { result ≡ is_before_end time end }
 {
@@ -89,12 +89,12 @@ pub fn becomes_longer(end: Option<u64>, silence: u64, from: u64, until: u64) -> 
     has_passed(end, silence, until) && !has_passed(end, silence, from)
 }
 
-/// Whether an end, if there was one, was before this time.
+/// Whether an end, if there was one, was before this time, by more than what rounding makes of it.
 pub fn is_over_before(end: Option<u64>, time: u64) -> bool
     ensures { result ≡ is_over_before end time }
 {
     match end {
-        Some(end) => end < time,
+        Some(end) => is_before_end(end, Some(time)),
         None => true,
     }
 }
