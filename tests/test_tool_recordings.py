@@ -13,10 +13,11 @@ FLAGS = "A c 2c61\nA gap\nslot\n#> A s 2d00\nA c 2c61\nA gap\nslot\n#> A s 2c05\
 LEFT_OUT = "hands: warning: what is handed over is left out: a bus does not show it\n"
 NONE_FOUND = "{0}: no profile is found that explains this recording\n"
 # a transfer to terminal 5 whose transmitter is late
-BESIDE = "A c 2822\nA d 0001\n#? A gap\nB c 2c02\nA gap\nB gap\nslot\n"
 LATE = "A c 2821\nA c 3421\nA gap\n#? A gap\nA c 3000\nA d 0001\nA gap\n"
 # a message to terminal 5 without its data word, which may have ended
 CUT = "A c 2821\n#? A gap\n"
+# the same, which a command on the other bus ends, before its gap or behind it
+BESIDE = "A c 2822\nA d 0001\n#? A gap\nB c 2c02\nA gap\nB gap\nslot\n"
 # over 1,048,576 bytes: it is read on while it is judged
 LONG = f"{ASK}#> A s 2800\n" * 40000
 FAULT = f"{ASK}#> A s 2820\n"
