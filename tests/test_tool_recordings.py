@@ -241,7 +241,8 @@ TABLES = with_files(
         "waits.csv": f"{HEAD}0,A,c,2822\n20,A,c,3482\n110,A,c,3062\n130,A,d,0001\n150,A,d,0002\n190,A,c,2c02\n216,A,s,2c00\n",
         "slow.csv": f"{HEAD}0,A,c,2862\n20,A,c,3462\n70,A,s,3000\n90,A,d,0001\n110,A,d,0002\n1000,A,c,2c02\n1024,A,s,2c00\n",
         "superseded.csv": f"{HEAD}0,A,c,2c64\n26,A,s,2800\n46,A,d,0000\n60,B,c,2c02\n66,A,d,0000\n86,B,s,2800\n",
-        "dropped.csv": f"{HEAD}0,A,c,2c64\n26,A,s,2800\n45.5,B,c,2c02\n46,A,d,0000\n66,A,d,0000\n89.5,B,s,2800\n",
+        "dropped.csv": f"{HEAD}0,A,c,2c64\n26,A,s,2800\n45.5,B,c,2c02\n46,A,d,0000\n66,A,d,0000\n77,B,s,2800\n",
+        "broadcast.csv": f"{HEAD}0,A,c,2c64\n26,A,s,2800\n45.5,B,c,f821\n46,A,d,0000\n66,A,d,0000\n",
         "open.csv": f"{HEAD}0,A,c,2822\n20,A,d,0001\n25,B,c,2c02\n49,B,s,2800\n",
         "tie.csv": f"{HEAD}0,A,c,2c02\n0.5,B,c,2c02\n",
         "tied.csv": "time,bus,command,status\n0,A,2c02,2800\n0.5,B,2c02,\n",
@@ -284,7 +285,10 @@ TABLES = with_files(
         "slot\n#> B s 2800\nA gap\nB gap\n"),
     Row("a command that ends when the last word of a reply begins", "recording dropped.csv --address 5", 0,
         "# 0\nA c 2c64\nA gap\n# 26\nslot\n#> A s 2800\n# 46\nslot\n#> A d 0000\n# 66\nslot\n#> A d 0000\n# 45.5\nB c 2c02\n"
-        "A gap\nB gap\n# 89.5\nslot\n#> B s 2800\nB gap\nslot\n"),
+        "B gap\n# 77\nslot\n#> B s 2800\nA gap\nB gap\n"),
+    Row("a broadcast that ends when the last word of a reply begins", "recording broadcast.csv --address 5", 0,
+        "# 0\nA c 2c64\nA gap\n# 26\nslot\n#> A s 2800\n# 46\nslot\n#> A d 0000\n# 66\nslot\n#> A d 0000\n# 45.5\nB c f821\n"
+        "A gap\nB gap\n"),
     Row("a gap that may have come before a command on the other bus", "recording open.csv --address 5", 0,
         "# 0\nA c 2822\n# 20\nA d 0001\n#? A gap\n# 25\nB c 2c02\nA gap\nB gap\n# 49\nslot\n#> B s 2800\nB gap\nslot\n"),
     Row("commands on two buses at once", "recording tie.csv --address 5", 2,
