@@ -55,6 +55,17 @@ thousandths digits = (slice_index digits 0 - 48) * 100 + (slice_index digits 1 -
 abbrev pub time_said : List ℕ → ℕ
 time_said text = digits_value 10 (before_first is_dot text) * 1000 + thousandths (drop 1 (drop (position_or_len is_dot text) text))
 
+-- the unit of a time's last digit, in nanoseconds, by what follows the digits of its number; digits behind nanoseconds do not count
+abbrev pub unit_of : List ℕ → ℕ
+unit_of (d ∷ a ∷ []) = 100
+unit_of (d ∷ a ∷ b ∷ []) = 10
+unit_of (d ∷ a ∷ b ∷ c ∷ more) = 1
+unit_of _ = 1000
+
+-- the unit of a time
+abbrev pub unit_said : List ℕ → ℕ
+unit_said text = unit_of (drop (position_or_len is_dot text) text)
+
 -- ---- names
 
 -- the text is this name, small or capital

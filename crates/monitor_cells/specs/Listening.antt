@@ -3,7 +3,8 @@
 use Rattle.std.specs.Prelude.{ℕ, ◌+◌, ◌-◌, ◌^◌, min, max, nat_lt, nat_le, Bool, true, false, not, ◌&&◌, ◌||◌, ◌==◌, if◌then◌else◌, Option, Some, None}
 use Rattle.bus_word.specs.declared.word.Bus.{Bus}
 use Rattle.bus_word.specs.declared.word.Bus.TheVariants.{A, B}
-use Rattle.bus_word.specs.Command.{address_of}
+use Rattle.bus_word.specs.Command.{address_of, transmits, is_mode, is_broadcast, code_of}
+use Rattle.bus_word.specs.Mode.{reset, self_test}
 use Rattle.bus_word.specs.Word.{is_command_sync}
 use Rattle.terminal_rules.specs.Buses.{other}
 use Rattle.monitor_cells.specs.declared.cells.WordSync.{WordSync}
@@ -60,6 +61,26 @@ is_over_before (Some end) time = is_before_end end (Some time)
 -- a silence on both buses that is longer is a pause: no terminal replies any more, and each bus had its gap
 abbrev pub pause_of : RecordingSetup → ℕ
 pause_of setup = max setup.pause (max setup.gap setup.no_response)
+
+-- ---- recovery
+
+-- How long a terminal may hear nothing behind its status word to this command: a reset (Notice 2, 30.4.3), or one that begins its self test (30.4.4).
+-- For others 0.
+abbrev pub recovery_of : RecordingSetup → ℕ → ℕ
+recovery_of setup command =
+    if not (transmits command && is_mode command) then 0
+    else if code_of command == reset then setup.after_reset
+    else if code_of command == self_test then setup.after_self_test
+    else 0
+
+-- up to when a terminal may be deaf, if it recovers for so long from an end on
+abbrev pub recovered_at : Option ℕ → ℕ → ℕ → Option ℕ
+recovered_at recovering end recovery = if recovery == 0 then recovering else later_end recovering (Some (min (end + recovery) (2 ^ 64 - 1)))
+
+-- a command that begins at this time may not be heard: the terminal may be deaf up to that time, or longer
+abbrev pub may_be_deaf : Option ℕ → ℕ → Bool
+may_be_deaf None time = false
+may_be_deaf (Some until) time = nat_le time until
 
 -- ---- words
 
@@ -163,6 +184,28 @@ is_open_behind setup last time (heard.Word bus Command bits) = is_meant_for setu
 is_open_behind setup last time (heard.Reply sent) = not (is_command_sync sent.kind) && is_open_at setup last time
 is_open_behind setup last time _ = is_open_at setup last time
 
+-- the terminal may not have heard the message that is open behind the last word
+abbrev pub was_unheard : Option LastWord → Bool
+was_unheard None = false
+was_unheard (Some w) = w.may_be_unheard
+
+-- Nor the one that is open behind a word: a command word for the terminal, or for all, began when it may have been deaf. Further words carry that on.
+abbrev pub is_unheard_behind : Listening → Option LastWord → ℕ → HeardItem → Bool
+is_unheard_behind l last time (heard.Word bus Command bits) = if is_meant_for l.setup.address bits then may_be_deaf l.recovering time else was_unheard last
+is_unheard_behind l last time _ = was_unheard last
+
+-- how long the terminal may be deaf behind its status word: that is known from the last command to it
+abbrev pub recovery_behind : Listening → HeardItem → ℕ
+recovery_behind l (heard.Word bus Command bits) = if address_of bits == l.setup.address then recovery_of l.setup bits else l.recovery
+recovery_behind l (heard.Reply sent) = if is_command_sync sent.kind then 0 else l.recovery
+recovery_behind l _ = l.recovery
+
+-- how long from the end of a word on: it is the status word, or a command to all, which has none
+abbrev pub recovery_from : Listening → HeardItem → ℕ
+recovery_from l (heard.Word bus Command bits) = if is_broadcast bits then recovery_of l.setup bits else 0
+recovery_from l (heard.Reply sent) = if is_command_sync sent.kind then l.recovery else 0
+recovery_from l _ = 0
+
 -- ---- the last words
 
 -- the last word on a bus, if there was one
@@ -177,7 +220,7 @@ with_last l B w = record l { b = Some w }
 
 -- nothing was heard yet
 abbrev pub listening_first : RecordingSetup → Listening
-listening_first setup = record { setup = setup; a = None; b = None }
+listening_first setup = record { setup = setup; a = None; b = None; recovering = None; recovery = 0 }
 
 -- when the latest word was heard, or sent
 abbrev pub latest_time : Listening → ℕ
@@ -194,11 +237,15 @@ row_last l row = record {
   heard = row_heard l row;
   speaker = speaker_seen l.setup (last_on l row.bus) row.time.nanos row.word;
   is_open = is_open_behind l.setup (last_on l row.bus) row.time.nanos (row_heard l row);
+  may_be_unheard = is_unheard_behind l (last_on l row.bus) row.time.nanos (row_heard l row);
 }
 
--- the last words after a row
+-- the last words after a row, and until when the terminal may be deaf
 abbrev pub row_known : Listening → WordRow → Listening
-row_known l row = with_last l row.bus (row_last l row)
+row_known l row = record (with_last l row.bus (row_last l row)) {
+  recovering = recovered_at l.recovering (word_end row.time.nanos) (recovery_from l (row_heard l row));
+  recovery = recovery_behind l (row_heard l row);
+}
 
 -- when it is heard, or sent
 abbrev pub row_time : Listening → WordRow → ℕ
@@ -258,9 +305,30 @@ abbrev pub is_reply_over : Listening → Bus → Option LastWord → ℕ → Boo
 is_reply_over l bus None time = false
 is_reply_over l bus (Some w) time = is_reply w.heard && (falls_silent l bus l.setup.gap time && is_over_before (end_on l (other bus)) w.begin)
 
--- in the silence of a bus up to this time there is a slot in which the terminal sends nothing
+-- in the silence of a bus up to this time there is a slot in which the terminal sends nothing, though it has heard the message
 abbrev pub has_slot_on : Listening → Bus → ℕ → Bool
-has_slot_on l bus time = is_silent_reply l bus (last_on l bus) time || is_reply_over l bus (last_on l bus) time
+has_slot_on l bus time =
+    (is_silent_reply l bus (last_on l bus) time && not (was_unheard (last_on l bus))) || is_reply_over l bus (last_on l bus) time
+
+-- or there is one in which it may be silent, since it may not have heard the message: whatever words were on the other bus
+abbrev pub may_be_silent_on : Listening → Bus → ℕ → Bool
+may_be_silent_on l bus time = (is_open_on l bus && was_unheard (last_on l bus)) && falls_silent l bus l.setup.no_response time
+
+-- a message without a reply is open on a bus at this time that the terminal may not have heard
+abbrev pub is_unheard_on : Listening → Bus → ℕ → Bool
+is_unheard_on l bus time = is_open_at l.setup (last_on l bus) time && was_unheard (last_on l bus)
+
+-- it is a command word, for whomever
+abbrev pub is_any_command : HeardItem → Bool
+is_any_command (heard.Word bus Command bits) = true
+is_any_command _ = false
+
+-- One ends without a reply with the word of a row: a command that begins a message on its bus; or on the other bus one to the terminal, or to all, or a
+-- word that the terminal goes on to send there.
+abbrev pub ends_unheard : Listening → WordRow → Bool
+ends_unheard l row =
+    (is_unheard_on l (other row.bus) row.time.nanos && (is_command_row l row || is_own_row l row))
+    || (is_unheard_on l row.bus row.time.nanos && (is_any_command (row_heard l row) && not (is_contiguous l.setup (last_on l row.bus) row.time.nanos)))
 
 -- How long a terminal waits for the status word of another: at least 14 microseconds from mid-bit to mid-sync (4.3.3.9), 12 of silence, and 1
 -- less where times are rounded; and no more than 40 behind the two commands, since the first data word begins within 60 behind the first of
@@ -283,6 +351,9 @@ may_give_up l bus time = is_open_on l bus && (has_lasted (silent_since (last_on 
 
 abbrev pub gap_if : Bool → Bus → Option HeardItem
 gap_if b bus = if b then Some (heard.Gap bus) else None
+
+abbrev pub maybe_silent_if : Bool → Option HeardItem
+maybe_silent_if b = if b then Some heard.MaybeSilent else None
 
 abbrev pub slot_if : Bool → Option HeardItem
 slot_if b = if b then Some heard.Slot else None
@@ -325,6 +396,7 @@ other_gap_on l row next =
 -- the next word begins there.
 abbrev pub silence_before : Listening → WordRow → Option ℕ → Silence
 silence_before l row next = record {
+  maybe_silent = maybe_silent_if (may_be_silent_on l (other row.bus) (other_until l row next) || (may_be_silent_on l row.bus row.time.nanos || ends_unheard l row));
   other_gap = other_gap_on l row next;
   own_gap = first_gap_on l row.bus row.time.nanos (is_pause_before l row.time.nanos);
   slot = slot_if (has_slot_on l (other row.bus) (other_until l row next) || has_slot_on l row.bus row.time.nanos);
@@ -342,6 +414,7 @@ forever = 2 ^ 64 - 1
 -- what is heard of it
 abbrev pub last_silence : Listening → Silence
 last_silence l = record {
+  maybe_silent = None;
   other_gap = first_gap_on l A forever false;
   own_gap = first_gap_on l B forever false;
   slot = slot_if (has_slot_on l A forever || has_slot_on l B forever);

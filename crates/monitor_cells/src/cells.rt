@@ -4,7 +4,7 @@ ghost use Rattle.std.specs.Char.{is_ascii_digit};
 ghost use Rattle.std.specs.Option.{SomeIff};
 ghost use Rattle.std.specs.List.{list_all, position_or_len, slice_split};
 ghost use Rattle.std.specs.Str.Parse.{digits_value};
-ghost use Rattle.monitor_cells.specs.Cells.{is_dot, is_time_byte, is_time_text, IsMicros, thousandths, is_fraction, IsTime, time_said, is_headed, bus_said, sync_said, kind_of_sync, word_said, words_listed};
+ghost use Rattle.monitor_cells.specs.Cells.{is_dot, is_time_byte, is_time_text, IsMicros, thousandths, is_fraction, IsTime, time_said, unit_of, unit_said, is_headed, bus_said, sync_said, kind_of_sync, word_said, words_listed};
 
 use arrayvec::ArrayString;
 use bus_word::{Bus, Kind};
@@ -26,6 +26,8 @@ const MICROS_END: u64 = 10_000_000_000_000_000;
 pub struct MonitorTime {
     /// In nanoseconds.
     pub nanos: u64,
+    /// What its last digit counts, in nanoseconds.
+    pub unit: u64,
     /// As it stands in the cell.
     pub text: TimeText,
 }
@@ -140,6 +142,27 @@ fn thousandths_behind(rest: &[u8]) -> u64
     }
 }
 
+/// What the last digit of a time counts, in nanoseconds, by what follows the digits of its number.
+fn unit_behind(rest: &[u8]) -> u64
+    ensures { result ≡ unit_of rest.now }
+{
+    match rest {
+        [_, _] => 100,
+        [_, _, _] => 10,
+        [_, _, _, _, ..] => 1,
+        _ => 1_000,
+    }
+}
+
+/// What the last digit of a time counts whose first dot has this place.
+fn unit_in(text: &[u8], dot: usize) -> u64
+    requires { dot ≤ length text.now }
+    ensures { result ≡ unit_of (drop dot text.now) }
+{
+    let (_whole, rest) = text.split_at(dot);
+    unit_behind(rest)
+}
+
 /// The nanoseconds of a time whose first dot has this place.
 fn nanos_in(text: &[u8], dot: usize) -> Option<u64>
     requires { dot ≤ length text.now }
@@ -159,6 +182,7 @@ fn nanos_in(text: &[u8], dot: usize) -> Option<u64>
 /// ignored. It has at most 60 bytes, and says less than 10,000,000,000,000,000 microseconds.
 pub fn read_time(cell: &[u8]) -> Option<MonitorTime>
     ensures said { SomeIff (option_map (λ time. time.nanos) result) (IsTime cell.now) (time_said cell.now) }
+    ensures unit { IfSome result (λ time. time.unit ≡ unit_said cell.now) }
     ensures text { IfSome result (λ time. time.text.bytes ≡ cell.now) }
     ensures plain { IfSome result (λ time. is_time_text time.text.bytes ≡ true) }
 {
@@ -173,7 +197,11 @@ pub fn read_time(cell: &[u8]) -> Option<MonitorTime>
         return None;
     };
     match TimeText::from(text) {
-        Ok(text) => Some(MonitorTime { nanos, text }),
+        Ok(text) => Some(MonitorTime {
+            nanos,
+            unit: unit_in(cell, dot),
+            text,
+        }),
         Err(_) => None,
     }
 }

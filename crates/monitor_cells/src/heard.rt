@@ -22,6 +22,8 @@ pub enum HeardItem {
     Late(Sent),
     /// A slot in which the terminal sends nothing.
     Slot,
+    /// A slot in which the terminal may be silent, since it may not have heard the message.
+    MaybeSilent,
     /// A second gap on a bus, that may have come or not: the terminal may have given up waiting for the status word of another.
     MaybeGap(Bus),
     /// The end of a pause, behind two gaps on each bus: in a slot nothing is sent.

@@ -15,8 +15,8 @@ pub use cells::{
 pub use heard::{HeardItem, is_command_sync, other_bus};
 pub use listening::{
     Listening, becomes_longer, has_lasted, has_passed, is_before_end, is_meant_for, is_over_before,
-    later_end, word_end,
+    later_end, may_be_deaf, recovered_at, word_end,
 };
 pub use seen::{SeenWord, WordRow};
 pub use setup::{LONGEST_WAIT, RecordingSetup, SHORTEST_WAIT, WORD_TIME};
-pub use silence::{Silence, gap_if, maybe_gap_if, pause_if, slot_if};
+pub use silence::{Silence, gap_if, maybe_gap_if, maybe_silent_if, pause_if, slot_if};

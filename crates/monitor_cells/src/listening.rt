@@ -1,14 +1,14 @@
 //! What is heard on two buses, by the last word on each.
 ghost use Rattle.std.specs.Prelude.{◌≡◌};
-ghost use Rattle.monitor_cells.specs.Listening.{word_end, has_passed, has_lasted, later_end, is_over_before, is_before_end, is_own_word, is_reply, counts, heard_time, end_of_word, time_of, silent_since, speaker_of, speaker_at, speaker_with, heard_by, speaker_seen, heard_seen, is_meant_for, is_contiguous, is_open_at, is_open_behind, last_on, with_last, listening_first, latest_time, row_heard, row_last, row_known, row_time, is_own_row, is_open_row, is_command_row, end_on, is_open_last, is_open_on, is_command_for, was_command_for, becomes_longer, falls_silent, may_be_gap, was_unclear_gap, is_unclear_gap, is_pause_before, is_silent_reply, is_reply_over, has_slot_on, gives_up, may_give_up, other_until, first_gap_on, other_gap_on, second_on, maybe_on, silence_before, last_silence};
+ghost use Rattle.monitor_cells.specs.Listening.{word_end, has_passed, has_lasted, later_end, recovery_of, recovered_at, may_be_deaf, was_unheard, is_unheard_behind, recovery_behind, recovery_from, may_be_silent_on, is_unheard_on, is_any_command, ends_unheard, is_over_before, is_before_end, is_own_word, is_reply, counts, heard_time, end_of_word, time_of, silent_since, speaker_of, speaker_at, speaker_with, heard_by, speaker_seen, heard_seen, is_meant_for, is_contiguous, is_open_at, is_open_behind, last_on, with_last, listening_first, latest_time, row_heard, row_last, row_known, row_time, is_own_row, is_open_row, is_command_row, end_on, is_open_last, is_open_on, is_command_for, was_command_for, becomes_longer, falls_silent, may_be_gap, was_unclear_gap, is_unclear_gap, is_pause_before, is_silent_reply, is_reply_over, has_slot_on, gives_up, may_give_up, other_until, first_gap_on, other_gap_on, second_on, maybe_on, silence_before, last_silence};
 
 use crate::cells::{WordSync, kind_of_sync};
 use crate::heard::{HeardItem, is_command_sync, other_bus};
 use crate::seen::{SeenWord, WordRow};
 use crate::setup::{LONGEST_WAIT, RecordingSetup, SHORTEST_WAIT, TOLERANCE, WORD_TIME};
-use crate::silence::{Silence, gap_if, maybe_gap_if, pause_if, slot_if};
+use crate::silence::{Silence, gap_if, maybe_gap_if, maybe_silent_if, pause_if, slot_if};
 use bus_terminal::Sent;
-use bus_word::{Bus, Command};
+use bus_word::{Bus, Command, mode};
 
 /// Whose words come on a bus, as long as no gap comes.
 #[derive(Clone, Copy)]
@@ -32,6 +32,8 @@ pub struct LastWord {
     pub speaker: Speaker,
     /// Whether a message to the terminal, or to all, is open behind it.
     pub is_open: bool,
+    /// Whether the terminal may not have heard that message.
+    pub may_be_unheard: bool,
 }
 
 /// When a word ends that begins at this time.
@@ -96,6 +98,27 @@ pub fn is_over_before(end: Option<u64>, time: u64) -> bool
     match end {
         Some(end) => is_before_end(end, Some(time)),
         None => true,
+    }
+}
+
+/// Up to when a terminal may be deaf, if it recovers for so long from an end on.
+pub fn recovered_at(recovering: Option<u64>, end: u64, recovery: u64) -> Option<u64>
+    ensures { result ≡ recovered_at recovering end recovery }
+{
+    if recovery == 0 {
+        recovering
+    } else {
+        later_end(recovering, Some(end.saturating_add(recovery)))
+    }
+}
+
+/// Whether a command that begins at this time may not be heard, while the terminal recovers.
+pub fn may_be_deaf(recovering: Option<u64>, time: u64) -> bool
+    ensures { result ≡ may_be_deaf recovering time }
+{
+    match recovering {
+        Some(until) => time <= until,
+        None => false,
     }
 }
 
@@ -179,6 +202,23 @@ fn is_open_last(last: &Option<LastWord>) -> bool
     }
 }
 
+/// Whether the terminal may not have heard the message that is open behind the last word on a bus.
+fn was_unheard(last: &Option<LastWord>) -> bool
+    ensures { result ≡ was_unheard last.now }
+{
+    match last {
+        Some(word) => word.may_be_unheard,
+        None => false,
+    }
+}
+
+/// Whether it is a command word, for whomever.
+fn is_any_command(heard: &HeardItem) -> bool
+    ensures { result ≡ is_any_command heard.now }
+{
+    matches!(heard, HeardItem::Word(_, WordSync::Command, _))
+}
+
 /// Whether it is a command word for the terminal of this address, or for all.
 fn is_command_for(address: u8, heard: &HeardItem) -> bool
     ensures { result ≡ is_command_for address heard.now }
@@ -223,6 +263,21 @@ fn heard_by(speaker: Speaker, bus: Bus, sync: WordSync, bits: u16) -> HeardItem
 }
 
 impl RecordingSetup {
+    /// How long the terminal may hear nothing behind its status word to this command: a reset, or one that begins a self test.
+    pub fn recovery_of(&self, bits: u16) -> u64
+        ensures { result ≡ recovery_of self.now bits }
+    {
+        let command = Command::of(bits);
+        if !(command.transmit() && command.is_mode()) {
+            return 0;
+        }
+        match command.code() {
+            mode::RESET => self.after_reset,
+            mode::SELF_TEST => self.after_self_test,
+            _ => 0,
+        }
+    }
+
     /// Whose data words come at this time.
     fn speaker_at(&self, last: &Option<LastWord>, time: u64) -> Speaker
         ensures { result ≡ speaker_at self.now last.now time }
@@ -321,6 +376,10 @@ pub struct Listening {
     setup: RecordingSetup,
     a: Option<LastWord>,
     b: Option<LastWord>,
+    /// Until when the terminal may be deaf, if it ever may.
+    recovering: Option<u64>,
+    /// How long it may be behind its status word to the last command to it; 0 if that is no reset, and begins no self test.
+    recovery: u64,
 }
 
 impl Listening {
@@ -332,6 +391,8 @@ impl Listening {
             setup,
             a: None,
             b: None,
+            recovering: None,
+            recovery: 0,
         }
     }
 
@@ -429,6 +490,10 @@ impl Listening {
         let heard = self.row_heard(row);
         let speaker = self.setup.speaker_seen(&last, begin, row.word);
         let is_open = self.setup.is_open_behind(&last, begin, &heard);
+        let may_be_unheard = self.is_unheard_behind(&last, begin, &heard);
+        let recovery = self.recovery_from(&heard);
+        let recovering = recovered_at(self.recovering, word_end(begin), recovery);
+        let recovery = self.recovery_behind(&heard);
         self.set(
             row.bus,
             LastWord {
@@ -436,9 +501,50 @@ impl Listening {
                 heard,
                 speaker,
                 is_open,
+                may_be_unheard,
             },
         );
+        self.recovering = recovering;
+        self.recovery = recovery;
         heard
+    }
+
+    /// Whether the terminal may not have heard the message that is open behind a word.
+    fn is_unheard_behind(&self, last: &Option<LastWord>, time: u64, heard: &HeardItem) -> bool
+        ensures { result ≡ is_unheard_behind self.now last.now time heard.now }
+    {
+        match heard {
+            HeardItem::Word(_, WordSync::Command, bits)
+                if is_meant_for(self.setup.address, *bits) => { may_be_deaf(self.recovering, time) }
+            _ => was_unheard(last),
+        }
+    }
+
+    /// How long it may be deaf behind its next status word, once this word was heard.
+    fn recovery_behind(&self, heard: &HeardItem) -> u64
+        ensures { result ≡ recovery_behind self.now heard.now }
+    {
+        match heard {
+            HeardItem::Word(_, WordSync::Command, bits)
+                if Command::of(*bits).address() == self.setup.address => {
+                self.setup.recovery_of(*bits)
+            }
+            HeardItem::Reply(sent) if is_command_sync(sent.kind) => 0,
+            _ => self.recovery,
+        }
+    }
+
+    /// How long from the end of this word on: it is the status word, or a command to all, which has none.
+    fn recovery_from(&self, heard: &HeardItem) -> u64
+        ensures { result ≡ recovery_from self.now heard.now }
+    {
+        match heard {
+            HeardItem::Word(_, WordSync::Command, bits) if Command::of(*bits).is_broadcast() => {
+                self.setup.recovery_of(*bits)
+            }
+            HeardItem::Reply(sent) if is_command_sync(sent.kind) => self.recovery,
+            _ => 0,
+        }
     }
 
     /// Whether a message to the terminal is open behind the last word on a bus.
@@ -520,12 +626,44 @@ impl Listening {
         }
     }
 
-    /// Whether the silence of a bus up to this time has a slot in which the terminal sends nothing.
+    /// Whether the silence of a bus up to this time has a slot in which the terminal sends nothing, though it has heard the message.
     fn has_slot_on(&self, bus: Bus, time: u64) -> bool
         ensures { result ≡ has_slot_on self.now bus time }
     {
         let last = self.last_on(bus);
-        self.is_silent_reply(bus, &last, time) || self.is_reply_over(bus, &last, time)
+        (self.is_silent_reply(bus, &last, time) && !was_unheard(&last))
+            || self.is_reply_over(bus, &last, time)
+    }
+
+    /// Whether it has one in which the terminal may be silent, since it may not have heard the message: whatever words were on the other bus.
+    fn may_be_silent_on(&self, bus: Bus, time: u64) -> bool
+        ensures { result ≡ may_be_silent_on self.now bus time }
+    {
+        let last = self.last_on(bus);
+        is_open_last(&last)
+            && was_unheard(&last)
+            && self.falls_silent(bus, self.setup.no_response, time)
+    }
+
+    /// Whether a message without a reply is open on a bus that the terminal may not have heard.
+    fn is_unheard_on(&self, bus: Bus, time: u64) -> bool
+        ensures { result ≡ is_unheard_on self.now bus time }
+    {
+        let last = self.last_on(bus);
+        self.setup.is_open_at(&last, time) && was_unheard(&last)
+    }
+
+    /// Whether one ends without a reply with the word of a row: a command that begins a message on its bus; or on the other bus one to the terminal,
+    /// or to all, or a word that the terminal goes on to send there.
+    fn ends_unheard(&self, row: &WordRow) -> bool
+        ensures { result ≡ ends_unheard self.now row.now }
+    {
+        let begin = row.time.nanos;
+        let begins_message = is_any_command(&self.row_heard(row))
+            && !self.setup.is_contiguous(&self.last_on(row.bus), begin);
+        let shows_it = self.is_command_row(row) || self.is_own_row(row);
+        (self.is_unheard_on(other_bus(row.bus), begin) && shows_it)
+            || (self.is_unheard_on(row.bus, begin) && begins_message)
     }
 
     /// Whether the terminal has given up waiting on a bus by this time.
@@ -597,7 +735,10 @@ impl Listening {
         let heard = self.row_heard(row);
         let until = self.other_until(row, next);
         let is_pause = self.is_pause_before(begin);
+        let may_be_silent = self.may_be_silent_on(other, until)
+            || self.may_be_silent_on(own, begin);
         Silence {
+            maybe_silent: maybe_silent_if(may_be_silent || self.ends_unheard(row)),
             other_gap: self.other_gap_on(row, next),
             own_gap: self.first_gap_on(own, begin, is_pause),
             slot: slot_if(self.has_slot_on(other, until) || self.has_slot_on(own, begin)),
@@ -615,6 +756,7 @@ impl Listening {
     {
         let forever = u64::MAX;
         Silence {
+            maybe_silent: None,
             other_gap: self.first_gap_on(Bus::A, forever, false),
             own_gap: self.first_gap_on(Bus::B, forever, false),
             slot: slot_if(self.has_slot_on(Bus::A, forever) || self.has_slot_on(Bus::B, forever)),

@@ -27,6 +27,10 @@ pub struct RecordingSetup {
     pub no_response: u64,
     /// A longer silence on both buses is a pause, if it is longer than `gap` and `no_response`, too.
     pub pause: u64,
+    /// So long after its status word to a reset the terminal may not hear a command.
+    pub after_reset: u64,
+    /// So long after its status word to a command that begins its self test.
+    pub after_self_test: u64,
 }
 
 impl RecordingSetup {
@@ -34,15 +38,18 @@ impl RecordingSetup {
     /// messages and before a reply (4.3.3.7, 4.3.3.8) are measured from the middle of the last bit to the middle of the sync, which
     /// leaves 2.0 of silence, and contiguous words have none. A reply comes after at most 12 microseconds: 14.0 (4.3.3.9) without the
     /// same 2.0. A pause is longer than 100 microseconds: a terminal that receives from another waits at most 60 for the status word of that
-    /// one (MIL-STD-1553B Notice 2, 30.9; SAE AS4111), so after 100 every terminal has given up.
+    /// one (MIL-STD-1553B Notice 2, 30.9; SAE AS4111), so after 100 every terminal has given up. After a reset a terminal is ready within 5.0
+    /// milliseconds, after a self test within 100.0, from its status word to the next command (Notice 2, 30.4.3, 30.4.4).
     pub fn of(address: u8) -> RecordingSetup
-        ensures { result ≡ record { address = address; gap = 1000; no_response = 12000; pause = 100000 } }
+        ensures { result ≡ record { address = address; gap = 1000; no_response = 12000; pause = 100000; after_reset = 5000000; after_self_test = 100000000 } }
     {
         RecordingSetup {
             address,
             gap: 1_000,
             no_response: 12_000,
             pause: 100_000,
+            after_reset: 5_000_000,
+            after_self_test: 100_000_000,
         }
     }
 

@@ -1,6 +1,6 @@
 //! What is heard of a silence.
 ghost use Rattle.std.specs.Prelude.{◌≡◌};
-ghost use Rattle.monitor_cells.specs.Listening.{gap_if, slot_if, maybe_gap_if, pause_if};
+ghost use Rattle.monitor_cells.specs.Listening.{gap_if, maybe_silent_if, slot_if, maybe_gap_if, pause_if};
 
 use crate::heard::HeardItem;
 use bus_word::Bus;
@@ -8,6 +8,8 @@ use bus_word::Bus;
 /// What is heard of a silence on both buses, in this order, up to the word that ends it on one of them.
 #[derive(Clone, Copy)]
 pub struct Silence {
+    /// The slot in which the terminal may be silent, since it may not have heard a message.
+    pub maybe_silent: Option<HeardItem>,
     /// The gap on the other bus.
     pub other_gap: Option<HeardItem>,
     /// The gap on the bus of the word.
@@ -32,6 +34,17 @@ pub fn gap_if(is_gap: bool, bus: Bus) -> Option<HeardItem>
 {
     if is_gap {
         Some(HeardItem::Gap(bus))
+    } else {
+        None
+    }
+}
+
+/// A slot in which the terminal may be silent, if there is one.
+pub fn maybe_silent_if(is_slot: bool) -> Option<HeardItem>
+    ensures { result ≡ maybe_silent_if is_slot }
+{
+    if is_slot {
+        Some(HeardItem::MaybeSilent)
     } else {
         None
     }

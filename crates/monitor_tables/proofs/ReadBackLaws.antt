@@ -23,8 +23,8 @@ use Rattle.script_lines.specs.EventLine.{event_text, event_line}
 use Rattle.script_lines.specs.Transcript.{bus_letter, sent_kind, sent_text}
 use Rattle.script_lines.proofs.RoundTrip.{event_read}
 use Rattle.rt1553_verify.specs.declared.stated.StatedFault.{StatedFault}
-use Rattle.rt1553_verify.specs.declared.matching.Matching.TheVariants.{Exact, MaybeGap as Maybe}
-use Rattle.rt1553_verify.specs.Stated.{StatedEvent, Latest, After, can_answer, can_be_given, states, ended, all_stated, then_event, maybe_gap_line, stays, or_misplaced, silent_line, by_going_on, by_mask, by_answer, unstated_line, line_says, then_events, then_lines, stated_by, stated_within}
+use Rattle.rt1553_verify.specs.declared.matching.Matching.TheVariants.{Exact, Maybe}
+use Rattle.rt1553_verify.specs.Stated.{StatedEvent, Latest, After, can_answer, can_be_given, states, ended, all_stated, then_event, maybe_line, stays, or_misplaced, silent_line, by_going_on, by_mask, by_answer, unstated_line, line_says, then_events, then_lines, stated_by, stated_within}
 use Rattle.rt1553_verify.specs.declared.stated.StatedFault.TheVariants.{Impossible, EndsEarly}
 use Rattle.rt1553_verify.proofs.PossibleLaws.{answer-possible}
 use Rattle.rt1553_verify.proofs.StatedLaws.{stated-means, bounded-short, stated-line, then-none, then-twice, stated-none}
@@ -32,10 +32,10 @@ use Rattle.rt1553_acceptance.proofs.Feeds.{IsLine, literal, within, joined, digi
 use Rattle.rt1553_acceptance.proofs.Pieces.{feeds-append}
 use Rattle.rt1553_acceptance.proofs.Small.{IsRead, read-sent}
 use Rattle.monitor_cells.specs.declared.heard.HeardItem.{HeardItem}
-use Rattle.monitor_cells.specs.declared.heard.HeardItem.TheVariants.{Gap, Word, Noise, Reply, Late, Slot, MaybeGap, Pause}
+use Rattle.monitor_cells.specs.declared.heard.HeardItem.TheVariants.{Gap, Word, Noise, Reply, Late, Slot, MaybeSilent, MaybeGap, Pause}
 use Rattle.monitor_cells.specs.Cells.{is_time_byte, is_time_text, kind_of_sync}
 use Rattle.monitor_tables.specs.declared.fault.RefusedRow.{RefusedRow}
-use Rattle.monitor_tables.specs.Recording.{HeardAt, time_line, heard_line, noted_text, recording_text, refused_line, event_stating, gap_maybe, without_line, heard_stated, HasWords, IsNotable, AreNotable, ReadBackLaw, EarlyEndLaw}
+use Rattle.monitor_tables.specs.Recording.{HeardAt, time_line, heard_line, noted_text, recording_text, refused_line, event_stating, event_maybe, without_line, heard_stated, HasWords, IsNotable, AreNotable, ReadBackLaw, EarlyEndLaw}
 
 -- ---- one line
 
@@ -236,23 +236,35 @@ module _ (most : ℕ) where
   maybe-line A = within (omega arith) (literal (codes "#? A gap") refl)
   maybe-line B = within (omega arith) (literal (codes "#? B gap") refl)
 
-  maybe-says : (n : ℕ) (latest : Latest) (bus : Bus) → IsGiven latest
-      → line_says true n latest (codes "#? " ++ event_text (event.Gap bus)) ≡ Ok (record { events = ended latest; latest = Some (record { line = n; event = event.Gap bus; matching = Maybe; answer_line = 0; answer = [] }) })
-  unfolding meaning
-  maybe-says n latest A given = ap (λ r. maybe_gap_line n latest r) (event_read (event.Gap A) tt) ∙ ap (then_event n (event.Gap A) Maybe) given
-  maybe-says n latest B given = ap (λ r. maybe_gap_line n latest r) (event_read (event.Gap B) tt) ∙ ap (then_event n (event.Gap B) Maybe) given
+  -- an event that may have come
+  abbrev maybe : ℕ → Event → StatedEvent
+  maybe n e = record { line = n; event = e; matching = Maybe; answer_line = 0; answer = [] }
 
-  reads-maybe : (n : ℕ) (bus : Bus) (latest : Latest) → n < most → Read n (codes "#? " ++ event_line (event.Gap bus)) latest (gap_maybe bus ∷ []) (n + 1)
-  reads-maybe n bus latest few =
-      let line = maybe-line bus in
-      let it : StatedEvent = record { line = n + 1; event = event.Gap bus; matching = Maybe; answer_line = 0; answer = [] } in (
+  -- line n says so
+  abbrev SaysMaybe : ℕ → Latest → Event → Type 0
+  SaysMaybe n latest e = line_says true n latest (codes "#? " ++ event_text e) ≡ Ok (record { events = ended latest; latest = Some (maybe n e) })
+
+  maybe-says : (n : ℕ) (latest : Latest) (bus : Bus) → IsGiven latest → SaysMaybe n latest (event.Gap bus)
+  unfolding meaning
+  maybe-says n latest A given = ap (λ r. maybe_line n latest r) (event_read (event.Gap A) tt) ∙ ap (then_event n (event.Gap A) Maybe) given
+  maybe-says n latest B given = ap (λ r. maybe_line n latest r) (event_read (event.Gap B) tt) ∙ ap (then_event n (event.Gap B) Maybe) given
+
+  -- or a slot in which the terminal may be silent
+  silent-says : (n : ℕ) (latest : Latest) → IsGiven latest → SaysMaybe n latest event.Slot
+  unfolding meaning
+  silent-says n latest given = ap (λ r. maybe_line n latest r) (event_read event.Slot tt) ∙ ap (then_event n event.Slot Maybe) given
+
+  reads-maybe : (n : ℕ) (e : Event) (latest : Latest) → n < most → IsLine 64 (codes "#? " ++ event_text e) → (IsGiven latest → SaysMaybe (n + 1) latest e)
+      → Read n (codes "#? " ++ event_line e) latest (event_maybe e ∷ []) (n + 1)
+  reads-maybe n e latest few line says =
+      let it : StatedEvent = maybe (n + 1) e in (
         n + 1,
         Some it,
         record {
           said = ended latest;
           stated = it ∷ [];
-          tells = λ x. Tells-same (codes "#? " ++ event_line (event.Gap bus)) (sym (append_assoc (codes "#? ") (event_text (event.Gap bus)) (10 ∷ [])))
-              (Tells-line n (codes "#? " ++ event_text (event.Gap bus)) latest (Some it) (ended latest) few line.short line.feeds (maybe-says (n + 1) latest bus x));
+          tells = λ x. Tells-same (codes "#? " ++ event_line e) (sym (append_assoc (codes "#? ") (event_text e) (10 ∷ [])))
+              (Tells-line n (codes "#? " ++ event_text e) latest (Some it) (ended latest) few line.short line.feeds (says x));
           gives = λ x. refl;
           splits = refl;
           are = refl;
@@ -303,7 +315,9 @@ module _ (most : ℕ) where
   reads-heard n (Reply sent) latest few words = reads-reply n (shown_word sent) latest few words
   reads-heard n (Late sent) latest few words = reads-later (omega arith) (reads-late n (shown_word sent) latest (omega (arith, few)))
   reads-heard n Slot latest few words = reads-later (omega arith) (reads-event n event.Slot latest (omega (arith, few)) tt)
-  reads-heard n (MaybeGap bus) latest few words = reads-later (omega arith) (reads-maybe n bus latest (omega (arith, few)))
+  reads-heard n MaybeSilent latest few words = reads-later (omega arith)
+      (reads-maybe n event.Slot latest (omega (arith, few)) (within (omega arith) (literal (codes "#? slot") refl)) (silent-says (n + 1) latest))
+  reads-heard n (MaybeGap bus) latest few words = reads-later (omega arith) (reads-maybe n (event.Gap bus) latest (omega (arith, few)) (maybe-line bus) (maybe-says (n + 1) latest bus))
   reads-heard n Pause latest few words = reads-later (omega arith) (reads-event n event.Slot latest (omega (arith, few)) tt)
 
   reads-noted : (n : ℕ) (x : HeardAt) (latest : Latest) → n + 2 < most → IsNotable x → Read n (noted_text x) latest (heard_stated x.heard) (n + 3)

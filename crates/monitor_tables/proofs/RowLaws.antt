@@ -15,11 +15,11 @@ use Rattle.monitor_tables.proofs.PutLaws.{puts-joined}
 
 module _ {W : Type 0} {written : W → Option (List ℕ)} where
   -- what is heard of a silence, one item after the other
-  pub silence-puts : {w w1 w2 w3 w4 w5 w6 w7 w8 : W} (s : Silence)
-      → PutsNoted written w w1 (one_noted s.other_gap) → PutsNoted written w1 w2 (one_noted s.own_gap) → PutsNoted written w2 w3 (one_noted s.slot)
+  pub silence-puts : {w w0 w1 w2 w3 w4 w5 w6 w7 w8 : W} (s : Silence)
+      → PutsNoted written w w0 (one_noted s.maybe_silent) → PutsNoted written w0 w1 (one_noted s.other_gap) → PutsNoted written w1 w2 (one_noted s.own_gap) → PutsNoted written w2 w3 (one_noted s.slot)
       → PutsNoted written w3 w4 (one_noted s.other_second) → PutsNoted written w4 w5 (one_noted s.own_second) → PutsNoted written w5 w6 (one_noted s.pause)
       → PutsNoted written w6 w7 (one_noted s.other_maybe) → PutsNoted written w7 w8 (one_noted s.own_maybe) → PutsNoted written w w8 (silence_noted s)
-  silence-puts s p1 p2 p3 p4 p5 p6 p7 p8 = puts-joined p1 (puts-joined p2 (puts-joined p3 (puts-joined p4 (puts-joined p5 (puts-joined p6 (puts-joined p7 p8))))))
+  silence-puts s p0 p1 p2 p3 p4 p5 p6 p7 p8 = puts-joined p0 (puts-joined p1 (puts-joined p2 (puts-joined p3 (puts-joined p4 (puts-joined p5 (puts-joined p6 (puts-joined p7 p8)))))))
 
   -- the silence before a word, and the word
   pub row-puts : {w w1 w2 : W} (l : Listening) (row : WordRow) (next : Option ℕ) (s : Silence) (x : HeardItem) (text : List ℕ) → s ≡ silence_before l row next → x ≡ row_heard l row → text ≡ row.time.text.bytes

@@ -1,5 +1,5 @@
 -- What is written of the rows of a table, one after the other.
-use Rattle.std.proofs.Common.{ℕ, ◌≡◌, ◌∙◌, true, false, if◌then◌else◌, List, [], ◌∷◌, ◌++◌, Bool, Option, Some, None, IfSome, MatchOption, refl, sym, ap, subst, append_assoc, append-nil}
+use Rattle.std.proofs.Common.{ℕ, ◌≡◌, ◌∙◌, ◌⊎◌, inl, inr, true, false, if◌then◌else◌, List, [], ◌∷◌, ◌++◌, Bool, Option, Some, None, IfSome, MatchOption, refl, sym, ap, subst, append_assoc, append-nil}
 use Rattle.monitor_tables.specs.declared.header.TableLayout.{TableLayout}
 use Rattle.monitor_tables.specs.declared.header.TableLayout.TheVariants.{Words, Messages}
 use Rattle.monitor_cells.specs.declared.listening.Listening.{Listening}
@@ -22,9 +22,13 @@ use Rattle.monitor_tables.specs.declared.hearing.Hearing.{Hearing}
 use Rattle.monitor_tables.specs.Hearing.{hearing_first, comes_first, known_by, hearing_known, all_known}
 use Rattle.monitor_tables.specs.Messages.{no_messages, message_known, silence_behind}
 use Rattle.monitor_tables.specs.Recording.{HeardAt, PutsRefusal}
-use Rattle.monitor_tables.specs.Rows.{IsWordRow, IsMessageRow, hearing_noted, held_noted, IsApart, AreWordRows, AreApart, AreMessageRows, ComesBehind, ComeBehind, rows_known, rows_noted, silence_noted, words_begun, words_noted, message_noted, messages_known, messages_noted, all_messages_noted, IsHeardOf, IsHeardSoFar, EndsEarly}
+use Rattle.monitor_tables.specs.Rows.{IsWordRow, IsMessageRow, hearing_noted, held_noted, IsApart, AreWordRows, AreApart, AreMessageRows, ComesBehind, ComeBehind, rows_known, rows_noted, silence_noted, words_begun, words_noted, message_noted, messages_known, messages_noted, all_messages_noted, IsHeardOf, IsHeardSoFar}
+use Rattle.monitor_tables.specs.Refused.{IsRefusedWord, IsRefusedMessage, IsUnreadFault, RefusesNext, EndsEarly}
+use Rattle.csv.specs.Records.{fields_of}
 use Rattle.monitor_tables.specs.Table.{TellsAll, TellsFront}
-use Rattle.monitor_tables.specs.inner.Puts.{PutsNoted, HasText, ToldTo, IsHeardTo, WordsSoFar, MessagesSoFar, PutsRows}
+use Rattle.monitor_tables.specs.inner.Reads.{TellsMore, RefusesWord, RefusesMessage}
+use Rattle.monitor_tables.proofs.ReadLaws.{told-joined, told-part}
+use Rattle.monitor_tables.specs.inner.Puts.{PutsNoted, HasText, ToldTo, IsHeardTo, WordsSoFar, MessagesSoFar, WordsRefused, MessagesRefused, PutsRows}
 use Rattle.monitor_tables.proofs.PutLaws.{puts-nothing, puts-joined, puts-early}
 
 -- ---- words
@@ -119,6 +123,40 @@ messages-more {written = written} {columns = columns} {records = records} {t = t
   known = known ∙ ap (λ x. message_known x row) p.known ∙ sym (messages-known-more t p.rows row);
 }
 
+-- ---- rows that are refused
+
+module _ {R : Type 0} {remaining : R → Option (List ℕ)} {t u v : TableRecords R} {told : List (List (List ℕ))} where
+  -- behind words that were told
+  pub word-refused : (columns : WordColumns) (h : Hearing) (fault : MonitorFault) → TellsMore remaining t u told → RefusesWord remaining columns h u v fault
+      → IsUnreadFault fault ⊎ ((fields : List (List ℕ)) × TellsFront remaining t (told ++ fields ∷ []) × IsRefusedWord columns h fields v.line fault)
+  word-refused columns h fault so (inl unread) = inl (fields_of v.row, unread)
+  word-refused columns h fault so (inr (more, is)) = inr (fields_of v.row, told-part (told-joined so more), is)
+
+  -- behind messages
+  pub message-refused : (columns : MessageColumns) (times : MessageTimes) (fault : MonitorFault) → TellsMore remaining t u told → RefusesMessage remaining columns times u v fault
+      → IsUnreadFault fault ⊎ ((fields : List (List ℕ)) × TellsFront remaining t (told ++ fields ∷ []) × IsRefusedMessage columns times fields v.line fault)
+  message-refused columns times fault so (inl unread) = inl (fields_of v.row, unread)
+  message-refused columns times fault so (inr (more, is)) = inr (fields_of v.row, told-part (told-joined so more), is)
+
+-- the first rows of a table lead to what is known, behind which the next one is refused
+words-refused : {R : Type 0} (remaining : R → Option (List ℕ)) (t : TableRecords R) (setup : RecordingSetup) (columns : WordColumns) (g : Hearing) (told : List (List (List ℕ))) (line : ℕ) (rows : List WordRow)
+    → AreWordRows columns told rows → g ≡ rows_known (hearing_first setup) rows → (o : Option MonitorFault)
+    → IfSome o (λ fault. IsUnreadFault fault ⊎ ((fields : List (List ℕ)) × TellsFront remaining t (told ++ fields ∷ []) × IsRefusedWord columns g fields line fault))
+    → IfSome o (RefusesNext remaining (Words columns) setup t told line)
+words-refused remaining t setup columns g told line rows are known None is = tt
+words-refused remaining t setup columns g told line rows are known (Some fault) (inl unread) = inl unread
+words-refused remaining t setup columns g told line rows are known (Some fault) (inr (fields, front, is)) =
+    inr (fields, front, (rows, are, subst (λ h. IsRefusedWord columns h fields line fault) known is))
+
+messages-refused : {R : Type 0} (remaining : R → Option (List ℕ)) (t : TableRecords R) (setup : RecordingSetup) (columns : MessageColumns) (u : MessageTimes) (told : List (List (List ℕ))) (line : ℕ) (rows : List MessageRow)
+    → AreMessageRows columns told rows → u ≡ messages_known (no_messages setup) rows → (o : Option MonitorFault)
+    → IfSome o (λ fault. IsUnreadFault fault ⊎ ((fields : List (List ℕ)) × TellsFront remaining t (told ++ fields ∷ []) × IsRefusedMessage columns u fields line fault))
+    → IfSome o (RefusesNext remaining (Messages columns) setup t told line)
+messages-refused remaining t setup columns u told line rows are known None is = tt
+messages-refused remaining t setup columns u told line rows are known (Some fault) (inl unread) = inl unread
+messages-refused remaining t setup columns u told line rows are known (Some fault) (inr (fields, front, is)) =
+    inr (fields, front, (rows, are, subst (λ v. IsRefusedMessage columns v fields line fault) known is))
+
 -- ---- tables
 
 -- all words of rows
@@ -135,14 +173,15 @@ words-read {written = written} {w = w} {w1 = w1} {w2 = w2} first p held =
 module _ {R W : Type 0} {remaining : R → Option (List ℕ)} {written : W → Option (List ℕ)} {t : TableRecords R} {setup : RecordingSetup} {w w1 : W} where
   -- all rows of a table of words, and what is heard at its end
   pub words-whole : {w2 w3 : W} {columns : WordColumns} {h g : Hearing} {l : Listening} {s : Silence} (put : RowsPut) → put.fault ≡ None → h ≡ hearing_first setup
-      → ((told : List (List (List ℕ))) × ToldTo remaining t told put × WordsSoFar written columns told h g w w1)
+      → ((told : List (List (List ℕ))) × ToldTo remaining t told put × WordsSoFar written columns told h g w w1 × WordsRefused remaining columns g t told put)
       → PutsNoted written w1 w2 (held_noted g) × (l ≡ all_known g) → s ≡ last_silence l → PutsNoted written w2 w3 (silence_noted s)
       → PutsRows remaining written (Words columns) setup t w w3 put
-  words-whole {w2 = w2} {w3 = w3} {columns = columns} put is first (told, to, so) (held, known) silence last =
+  words-whole {w2 = w2} {w3 = w3} {columns = columns} {g = g} put is first (told, to, so, refused) (held, known) silence last =
       let read = words-read first so held in
       let ns : List HeardAt = words_noted setup so.rows in record {
         told = told;
         to = to;
+        refused = words-refused remaining t setup columns g told put.line so.rows so.are read.2 put.fault refused;
         ns = ns;
         heard = subst (IsHeardTo (Words columns) setup told ns) (sym is) (so.rows, so.are, read.0, refl);
         puts = puts-joined read.1 (subst (λ s. PutsNoted written w2 w3 (silence_noted s)) (silence ∙ ap last_silence (known ∙ ap all_known read.2)) last);
@@ -150,13 +189,14 @@ module _ {R W : Type 0} {remaining : R → Option (List ℕ)} {written : W → O
 
   -- its first rows
   pub words-part : {w2 : W} {columns : WordColumns} {h g : Hearing} (put : RowsPut) (fault : MonitorFault) → put.fault ≡ Some fault → h ≡ hearing_first setup
-      → ((told : List (List (List ℕ))) × ToldTo remaining t told put × WordsSoFar written columns told h g w w1)
+      → ((told : List (List (List ℕ))) × ToldTo remaining t told put × WordsSoFar written columns told h g w w1 × WordsRefused remaining columns g t told put)
       → PutsNoted written w1 w2 (held_noted g) → PutsRows remaining written (Words columns) setup t w w2 put
-  words-part {columns = columns} put fault is first (told, to, so) held =
+  words-part {columns = columns} {g = g} put fault is first (told, to, so, refused) held =
       let read = words-read first so held in
       let ns : List HeardAt = words_begun setup so.rows in record {
         told = told;
         to = to;
+        refused = words-refused remaining t setup columns g told put.line so.rows so.are read.2 put.fault refused;
         ns = ns;
         heard = subst (IsHeardTo (Words columns) setup told ns) (sym is) (so.rows, so.are, read.0, refl);
         puts = read.1;
@@ -164,13 +204,14 @@ module _ {R W : Type 0} {remaining : R → Option (List ℕ)} {written : W → O
 
   -- all rows of a table of messages, and what is heard at its end
   pub messages-all : {w2 : W} {columns : MessageColumns} {l m : MessageTimes} {s : Silence} (put : RowsPut) → put.fault ≡ None → l ≡ no_messages setup
-      → ((told : List (List (List ℕ))) × ToldTo remaining t told put × MessagesSoFar written columns told l m w w1)
+      → ((told : List (List (List ℕ))) × ToldTo remaining t told put × MessagesSoFar written columns told l m w w1 × MessagesRefused remaining columns m t told put)
       → s ≡ silence_behind m → PutsNoted written w1 w2 (silence_noted s) → PutsRows remaining written (Messages columns) setup t w w2 put
-  messages-all {w2 = w2} {columns = columns} {m = m} put is first (told, to, so) silence last =
+  messages-all {w2 = w2} {columns = columns} {m = m} put is first (told, to, so, refused) silence last =
       let p = subst (λ x. MessagesSoFar written columns told x m w w1) first so in
       let ns : List HeardAt = all_messages_noted setup p.rows in record {
         told = told;
         to = to;
+        refused = messages-refused remaining t setup columns m told put.line p.rows p.are p.known put.fault refused;
         ns = ns;
         heard = subst (IsHeardTo (Messages columns) setup told ns) (sym is) (p.rows, p.are, p.behind, refl);
         puts = puts-joined p.puts (subst (λ s. PutsNoted written w1 w2 (silence_noted s)) (silence ∙ ap silence_behind p.known) last);
@@ -178,12 +219,13 @@ module _ {R W : Type 0} {remaining : R → Option (List ℕ)} {written : W → O
 
   -- its first rows
   pub messages-part : {columns : MessageColumns} {l m : MessageTimes} (put : RowsPut) (fault : MonitorFault) → put.fault ≡ Some fault → l ≡ no_messages setup
-      → ((told : List (List (List ℕ))) × ToldTo remaining t told put × MessagesSoFar written columns told l m w w1) → PutsRows remaining written (Messages columns) setup t w w1 put
-  messages-part {columns = columns} {m = m} put fault is first (told, to, so) =
+      → ((told : List (List (List ℕ))) × ToldTo remaining t told put × MessagesSoFar written columns told l m w w1 × MessagesRefused remaining columns m t told put) → PutsRows remaining written (Messages columns) setup t w w1 put
+  messages-part {columns = columns} {m = m} put fault is first (told, to, so, refused) =
       let p = subst (λ x. MessagesSoFar written columns told x m w w1) first so in
       let ns : List HeardAt = messages_noted (no_messages setup) p.rows in record {
         told = told;
         to = to;
+        refused = messages-refused remaining t setup columns m told put.line p.rows p.are p.known put.fault refused;
         ns = ns;
         heard = subst (IsHeardTo (Messages columns) setup told ns) (sym is) (p.rows, p.are, p.behind, refl);
         puts = p.puts;
@@ -206,9 +248,19 @@ module _ {R W : Type 0} {remaining : R → Option (List ℕ)} {written : W → O
 
   -- and the last line says so
   pub ends-early : (w2 : W) (has_failed : W → Bool) {layout : TableLayout} (put : RowsPut) (fault : MonitorFault) → put.fault ≡ Some fault
-      → PutsRows remaining written layout setup t w w1 put → (refused : RefusedRow) → refused.rows ≡ put.rows → (end : EarlyEnd) → PutsRefusal written has_failed w1 w2 refused end
+      → PutsRows remaining written layout setup t w w1 put → (refused : RefusedRow) → refused ≡ record { fault = fault; row = put.line; rows = put.rows } → (end : EarlyEnd) → PutsRefusal written has_failed w1 w2 refused end
       → EndsEarly remaining written has_failed layout setup t w w2 end
-  ends-early w2 has_failed put fault is p refused rows (Refused it) ends =
+  ends-early w2 has_failed {layout = layout} put fault is p refused same (Refused it) ends =
       let part = put-part put fault is p in
-      (p.told, part.0, ap (λ r. r.rows) ends.0 ∙ rows ∙ p.to.0, p.ns, part.1, p.puts.notable, puts-early w w1 w2 p.ns it p.puts ends.1)
-  ends-early w2 has_failed put fault is p refused rows Write ends = ends
+      let it-is : it ≡ record { fault = fault; row = put.line; rows = put.rows } = ends.0 ∙ same in
+      let why : RefusesNext remaining layout setup t p.told put.line fault = subst (λ (o : Option MonitorFault). IfSome o (RefusesNext remaining layout setup t p.told put.line)) is p.refused in (
+        p.told,
+        part.0,
+        ap (λ r. r.rows) it-is ∙ p.to.0,
+        subst (λ (r : RefusedRow). RefusesNext remaining layout setup t p.told r.row r.fault) (sym it-is) why,
+        p.ns,
+        part.1,
+        p.puts.notable,
+        puts-early w w1 w2 p.ns it p.puts ends.1,
+      )
+  ends-early w2 has_failed put fault is p refused same Write ends = ends

@@ -46,8 +46,7 @@ pub record IsExtraField (fields : List (List ℕ)) (width n : ℕ) : Type 0 wher
 
 -- why a record, on a line, has more than so many fields
 abbrev pub IsExtraFault : List (List ℕ) → ℕ → ℕ → MonitorFault → Type 0
-IsExtraFault fields line width (Extra place) = (n : ℕ) × (place ≡ field_placed line n) × IsExtraField fields width n
-IsExtraFault fields line width _ = ⊥
+IsExtraFault fields line width fault = (n : ℕ) × (fault ≡ Extra (field_placed line n)) × IsExtraField fields width n
 
 -- Why no record comes after these fields: the first of them that has a line feed, on some line. A refused growth of memory and a failed read
 -- say nothing of them.

@@ -1,5 +1,5 @@
 -- The words of a table in the order in which they are heard or sent: of two that overlap, on two buses, the one that begins later may come first.
-use Rattle.std.specs.Prelude.{ℕ, nat_lt, Bool, false, not, ◌&&◌, ◌||◌, if◌then◌else◌, Option, Some, None}
+use Rattle.std.specs.Prelude.{ℕ, ◌+◌, ◌*◌, ◌-◌, ◌^◌, min, nat_lt, Bool, false, not, ◌&&◌, ◌||◌, if◌then◌else◌, Option, Some, None}
 use Rattle.bus_word.specs.declared.word.Bus.{Bus}
 use Rattle.terminal_rules.specs.Buses.{same_bus}
 use Rattle.monitor_cells.specs.declared.listening.Listening.{Listening}
@@ -23,12 +23,21 @@ comes_first l row held =
     not (same_bus row.bus held.bus)
     && ((is_own_row l row && not (is_own_row l held)) && not (is_before_end (row_time l held) (Some (row_time l row))))
 
--- The order of two words of others decides, and times don't tell it: they end within 1 microsecond on two buses, behind each a message to the terminal
--- is open, and one of them is a command to it.
+-- What times of these units leave open of what lies between them, so many words later: the units, and 20 nanoseconds for each word, which is timed by
+-- a clock of 0.1 % (4.3.3.3).
+abbrev pub left_open : ℕ → ℕ → ℕ → ℕ
+left_open words first second = min (first + second + 20 * words) (2 ^ 64 - 1)
+
+-- a time is before another by more than that
+abbrev pub is_surely_before : ℕ → ℕ → ℕ → Bool
+is_surely_before time leeway other = nat_lt (min (time + leeway) (2 ^ 64 - 1)) other
+
+-- The order of two words of others decides, and times don't tell it: they end within what their times leave open on two buses, behind each a message to
+-- the terminal is open, and one of them is a command to it.
 abbrev pub has_unclear_order_with : Listening → WordRow → Option WordRow → Bool
 has_unclear_order_with l row None = false
 has_unclear_order_with l row (Some held) =
-    (not (same_bus row.bus held.bus) && not (is_before_end (row_time l held) (Some (row_time l row))))
+    (not (same_bus row.bus held.bus) && not (is_surely_before (row_time l held) (left_open 2 row.time.unit held.time.unit) (row_time l row)))
     && ((is_open_row l row && is_open_row l held) && (is_command_row l row || is_command_row l held))
 
 abbrev pub has_unclear_order : Hearing → WordRow → Bool

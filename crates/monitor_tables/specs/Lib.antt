@@ -4,6 +4,7 @@ pub mod Header
 pub mod Hearing
 pub mod Messages
 pub mod Recording
+pub mod Refused
 pub mod Rows
 pub mod Table
 pub mod inner

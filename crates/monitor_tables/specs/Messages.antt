@@ -3,7 +3,7 @@
 use Rattle.std.specs.Prelude.{ℕ, nat_lt, Bool, false, not, ◌&&◌, ◌||◌, ◌==◌, ◌+◌, ◌*◌, ◌-◌, ◌^◌, min, max, if◌then◌else◌, Option, Some, None, is_none, is_some, List, [], ◌∷◌, ◌++◌, length, map}
 use Rattle.bus_word.specs.declared.word.Bus.{Bus}
 use Rattle.bus_word.specs.declared.word.Bus.TheVariants.{A, B}
-use Rattle.bus_word.specs.Command.{address_of, transmits}
+use Rattle.bus_word.specs.Command.{address_of, transmits, is_broadcast}
 use Rattle.terminal_rules.specs.Buses.{same_bus, other}
 use Rattle.monitor_cells.specs.declared.cells.WordSync.{WordSync}
 use Rattle.monitor_cells.specs.declared.cells.WordSync.TheVariants.{Command, Data, Status}
@@ -12,10 +12,11 @@ use Rattle.monitor_cells.specs.declared.heard.HeardItem.TheVariants.{Gap, MaybeG
 use Rattle.monitor_tables.specs.declared.messages.MessageRow.{MessageRow}
 use Rattle.monitor_tables.specs.declared.message_times.LastMessage.{LastMessage}
 use Rattle.monitor_tables.specs.declared.message_times.MessageTimes.{MessageTimes}
+use Rattle.monitor_tables.specs.Hearing.{left_open, is_surely_before}
 use Rattle.monitor_cells.specs.declared.silence.Silence.{Silence}
 use Rattle.monitor_cells.specs.declared.setup.RecordingSetup.{RecordingSetup}
 use Rattle.monitor_cells.specs.Cells.{kind_of_sync}
-use Rattle.monitor_cells.specs.Listening.{word_end, later_end, has_passed, has_lasted, becomes_longer, is_over_before, is_before_end, pause_of, is_meant_for, shortest_wait, longest_wait, forever, gap_if, slot_if, maybe_gap_if, pause_if}
+use Rattle.monitor_cells.specs.Listening.{word_end, later_end, has_passed, has_lasted, becomes_longer, is_over_before, is_before_end, pause_of, is_meant_for, recovery_of, recovered_at, may_be_deaf, shortest_wait, longest_wait, forever, gap_if, maybe_silent_if, slot_if, maybe_gap_if, pause_if}
 
 -- a word of the terminal, or of another
 abbrev pub word_by : Bool → Bus → WordSync → ℕ → HeardItem
@@ -127,22 +128,41 @@ sent_no_status address row = is_asked address row && (not (is_own_status address
 abbrev pub ends_in_reply : ℕ → MessageRow → Bool
 ends_in_reply address row = is_own_status address (first_or_second row.status2 row.status)
 
+-- how long the terminal may be deaf behind a message with this command: it replied to that, or that is to all
+abbrev pub recovery_with : RecordingSetup → MessageRow → ℕ → ℕ
+recovery_with setup row command =
+    if is_broadcast command || ((address_of command == setup.address) && not (sent_no_status setup.address row)) then recovery_of setup command else 0
+
+abbrev pub second_recovery : RecordingSetup → MessageRow → Option ℕ → ℕ
+second_recovery setup row None = 0
+second_recovery setup row (Some command) = recovery_with setup row command
+
+-- how long behind a message
+abbrev pub message_recovery : RecordingSetup → MessageRow → ℕ
+message_recovery setup row = max (recovery_with setup row row.command) (second_recovery setup row row.command2)
+
+-- the terminal may not have heard a message: no status word came, and it may have been deaf
+abbrev pub may_be_unheard : MessageTimes → MessageRow → Bool
+may_be_unheard times row = sent_no_status times.setup.address row && may_be_deaf times.recovering row.time.nanos
+
 -- a message, as the last one on its bus
-abbrev pub message_last : RecordingSetup → MessageRow → LastMessage
-message_last setup row = record {
+abbrev pub message_last : MessageTimes → MessageRow → LastMessage
+message_last times row = record {
   begin = row.time.nanos;
+  unit = row.time.unit;
   commands_end = commands_end row;
   words_end = words_end row;
-  end = latest_end setup row;
-  is_asked = is_asked setup.address row;
-  is_awaiting = is_awaiting setup.address row;
-  sent_no_status = sent_no_status setup.address row;
-  ends_in_reply = ends_in_reply setup.address row;
+  end = latest_end times.setup row;
+  is_asked = is_asked times.setup.address row;
+  is_awaiting = is_awaiting times.setup.address row;
+  sent_no_status = sent_no_status times.setup.address row;
+  may_be_unheard = may_be_unheard times row;
+  ends_in_reply = ends_in_reply times.setup.address row;
 }
 
 -- no message was read
 abbrev pub no_messages : RecordingSetup → MessageTimes
-no_messages setup = record { setup = setup; begin = 0; above = None; end = None; a = None; b = None }
+no_messages setup = record { setup = setup; begin = 0; above = None; end = None; recovering = None; a = None; b = None }
 
 -- the last message on a bus, if there was one
 abbrev pub last_message : MessageTimes → Bus → Option LastMessage
@@ -151,7 +171,7 @@ last_message times B = times.b
 
 -- the same after a message
 abbrev pub last_after : MessageTimes → MessageRow → Bus → Option LastMessage
-last_after times row bus = if same_bus bus row.bus then Some (message_last times.setup row) else last_message times bus
+last_after times row bus = if same_bus bus row.bus then Some (message_last times row) else last_message times bus
 
 -- what is known after a message
 abbrev pub message_known : MessageTimes → MessageRow → MessageTimes
@@ -160,6 +180,7 @@ message_known times row = record {
   begin = row.time.nanos;
   above = Some row.bus;
   end = later_end times.end (Some (latest_end times.setup row));
+  recovering = recovered_at times.recovering (latest_end times.setup row) (message_recovery times.setup row);
   a = last_after times row A;
   b = last_after times row B;
 }
@@ -191,11 +212,11 @@ begins_within times row =
     is_before_end row.time.nanos (words_of_last (last_message times row.bus))
     || is_heard_before row (commands_of_last (last_message times (other row.bus)))
 
--- The order of the first command of a message and of the commands of the last one on the other bus decides, and times don't tell it: it ends no
--- later than 1 microsecond behind these, and both messages are to the terminal.
+-- The order of the first command of a message and of the commands of the last one on the other bus decides, and times don't tell it: it ends behind these
+-- within what their times leave open, and both messages are to the terminal.
 abbrev pub has_unclear_begin_with : ℕ → MessageRow → Option LastMessage → Bool
 has_unclear_begin_with address row None = false
-has_unclear_begin_with address row (Some m) = (m.is_asked && is_asked address row) && not (is_before_end m.commands_end (Some (word_end row.time.nanos)))
+has_unclear_begin_with address row (Some m) = (m.is_asked && is_asked address row) && not (is_surely_before m.commands_end (left_open 3 row.time.unit m.unit) (word_end row.time.nanos))
 
 abbrev pub has_unclear_begin : MessageTimes → MessageRow → Bool
 has_unclear_begin times row = has_unclear_begin_with times.setup.address row (last_message times (other row.bus))
@@ -222,15 +243,30 @@ is_long_over times m time = becomes_longer (Some m.end) times.setup.no_response 
 abbrev pub is_followed : MessageTimes → LastMessage → Bool → Bool
 is_followed times m here = m.ends_in_reply && (here && not (has_passed (Some m.end) times.setup.no_response (heard_above times)))
 
--- The terminal had to send by now, and did not, or its reply is over; and no command was heard on the other bus since the first one of the message.
+-- The terminal has heard the message, had to send by now, and did not, or its reply is over; no command was heard on the other bus since the first
+-- one of the message, and what was sent there is over.
 abbrev pub has_slot_behind : MessageTimes → Bus → Option LastMessage → Bool → ℕ → Bool
 has_slot_behind times bus None here time = false
 has_slot_behind times bus (Some m) here time =
-    (((m.sent_no_status || m.ends_in_reply) && is_long_over times m time) || is_followed times m here) && is_over_before (commands_of_last (last_message times (other bus))) (word_end m.begin)
+    ((((m.sent_no_status && not m.may_be_unheard) || m.ends_in_reply) && is_long_over times m time) || is_followed times m here)
+    && (is_over_before (commands_of_last (last_message times (other bus))) (word_end m.begin) && is_over_before (end_of_last (last_message times (other bus))) time)
 
 -- there is a slot in which the terminal sends nothing, behind the last message on a bus
 abbrev pub has_slot_between : MessageTimes → MessageRow → Bus → Bool
 has_slot_between times row bus = has_slot_behind times bus (last_message times bus) (same_bus bus row.bus) (silent_until row bus)
+
+-- the terminal may not have heard the last message on a bus
+abbrev pub is_last_unheard : Option LastMessage → Bool
+is_last_unheard None = false
+is_last_unheard (Some m) = m.may_be_unheard
+
+-- nor the message above, if that is on this bus: there is a slot behind it in which it may be silent
+abbrev pub may_be_silent_above : MessageTimes → Option Bus → Bool
+may_be_silent_above times None = false
+may_be_silent_above times (Some bus) = is_last_unheard (last_message times bus)
+
+abbrev pub may_be_silent : MessageTimes → Bool
+may_be_silent times = may_be_silent_above times times.above
 
 -- by this time the terminal has given up waiting for the status word of another
 abbrev pub has_given_up : MessageTimes → Option LastMessage → ℕ → Bool
@@ -293,6 +329,7 @@ maybe_between times row bus = maybe_gap_if (may_have_given_up (last_message time
 -- what is heard of the silence before a message
 abbrev pub silence_between : MessageTimes → MessageRow → Silence
 silence_between times row = record {
+  maybe_silent = maybe_silent_if (may_be_silent times);
   other_gap = gap_between times row (other row.bus);
   own_gap = gap_between times row row.bus;
   slot = slot_if (has_slot_between times row (other row.bus) || has_slot_between times row row.bus);
@@ -306,6 +343,7 @@ silence_between times row = record {
 -- what is heard of the silence behind the last message, which goes on
 abbrev pub silence_behind : MessageTimes → Silence
 silence_behind times = record {
+  maybe_silent = None;
   other_gap = gap_if (is_above times A) A;
   own_gap = gap_if (is_above times B) B;
   slot = slot_if (has_slot_behind times A times.a false forever || has_slot_behind times B times.b false forever);

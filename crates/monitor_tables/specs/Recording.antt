@@ -1,7 +1,6 @@
 -- Recordings: what was heard, as lines of a script; and that such a script, read back, says just that.
 use Rattle.std.specs.Prelude.{ℕ, ◌≡◌, ◌*◌, ◌<◌, ◌≤◌, ◌^◌, Bool, true, List, [], ◌∷◌, ◌++◌, Option, codes, decimal, length, map, flat_map, Ok, Err}
 use Rattle.std.specs.Io.KnownBytes.{Appends}
-use Rattle.bus_word.specs.declared.word.Bus.{Bus}
 use Rattle.bus_word.specs.Word.{valid_word}
 use Rattle.terminal_rules.specs.declared.event.Event.{Event}
 use Rattle.terminal_rules.specs.declared.event.Event.TheVariants as event
@@ -12,7 +11,7 @@ use Rattle.rt1553_verify.specs.declared.matching.Matching.TheVariants as matchin
 use Rattle.rt1553_verify.specs.declared.stated.StatedFault.TheVariants.{EndsEarly}
 use Rattle.rt1553_verify.specs.Stated.{StatedEvent, stated_within}
 use Rattle.monitor_cells.specs.declared.heard.HeardItem.{HeardItem}
-use Rattle.monitor_cells.specs.declared.heard.HeardItem.TheVariants.{Gap, Word, Noise, Reply, Late, Slot, MaybeGap, Pause}
+use Rattle.monitor_cells.specs.declared.heard.HeardItem.TheVariants.{Gap, Word, Noise, Reply, Late, Slot, MaybeSilent, MaybeGap, Pause}
 use Rattle.monitor_cells.specs.Cells.{is_time_text, kind_of_sync}
 use Rattle.monitor_tables.specs.declared.fault.EarlyEnd.{EarlyEnd}
 use Rattle.monitor_tables.specs.declared.fault.EarlyEnd.TheVariants.{Refused, Write}
@@ -38,6 +37,7 @@ heard_line (Noise bus) = event_line (event.Noise bus)
 heard_line (Reply sent) = codes "slot\n#> " ++ sent_text (shown_word sent)
 heard_line (Late sent) = codes "# later than no response: " ++ sent_text (shown_word sent)
 heard_line Slot = event_line event.Slot
+heard_line MaybeSilent = codes "#? " ++ event_line event.Slot
 heard_line (MaybeGap bus) = codes "#? " ++ event_line (event.Gap bus)
 heard_line Pause = event_line event.Slot
 
@@ -71,9 +71,9 @@ PutsRefusal written has_failed w w' refused Write = has_failed w' ≡ true
 abbrev pub event_stating : Event → List ℕ → StatedEvent
 event_stating e answer = record { line = 0; event = e; matching = matching.Exact; answer_line = 0; answer = answer }
 
--- a gap that may have come
-abbrev pub gap_maybe : Bus → StatedEvent
-gap_maybe bus = record { line = 0; event = event.Gap bus; matching = matching.MaybeGap; answer_line = 0; answer = [] }
+-- a gap that may have come, or a slot in which the terminal may be silent
+abbrev pub event_maybe : Event → StatedEvent
+event_maybe e = record { line = 0; event = e; matching = matching.Maybe; answer_line = 0; answer = [] }
 
 -- the same of an event that was read
 abbrev pub without_line : StatedEvent → StatedEvent
@@ -88,7 +88,8 @@ heard_stated (Noise bus) = event_stating (event.Noise bus) [] ∷ []
 heard_stated (Reply sent) = event_stating event.Slot (sent_text (shown_word sent)) ∷ []
 heard_stated (Late sent) = []
 heard_stated Slot = event_stating event.Slot [] ∷ []
-heard_stated (MaybeGap bus) = gap_maybe bus ∷ []
+heard_stated MaybeSilent = event_maybe event.Slot ∷ []
+heard_stated (MaybeGap bus) = event_maybe (event.Gap bus) ∷ []
 heard_stated Pause = event_stating event.Slot [] ∷ []
 
 -- ---- the law

@@ -1,6 +1,5 @@
 -- What the rows of a monitor's table say, and what is written of them.
-use Rattle.std.specs.Prelude.{ℕ, ◌≡◌, ◌≤◌, ◌++◌, Bool, false, not, ◌&&◌, ◌||◌, if◌then◌else◌, true, Option, Some, None, List, [], ◌∷◌, length, codes}
-use Rattle.std.specs.Io.KnownBytes.{Appends}
+use Rattle.std.specs.Prelude.{ℕ, ◌≡◌, ◌≤◌, ◌++◌, Bool, false, not, ◌&&◌, ◌||◌, if◌then◌else◌, Option, Some, None, List, [], ◌∷◌, codes}
 use Rattle.monitor_cells.specs.declared.cells.MonitorTime.{MonitorTime}
 use Rattle.monitor_cells.specs.declared.cells.WordSync.{WordSync}
 use Rattle.monitor_cells.specs.declared.listening.Listening.{Listening}
@@ -11,7 +10,7 @@ use Rattle.monitor_cells.specs.declared.seen.SeenWord.{SeenWord}
 use Rattle.monitor_cells.specs.declared.seen.SeenWord.TheVariants.{Noise, Valid}
 use Rattle.monitor_tables.specs.declared.words.WordColumns.{WordColumns}
 use Rattle.monitor_cells.specs.declared.seen.WordRow.{WordRow}
-use Rattle.monitor_cells.specs.Cells.{IsTime, time_said, is_headed, bus_said, sync_said, word_said, words_listed, is_some_text}
+use Rattle.monitor_cells.specs.Cells.{IsTime, time_said, unit_said, is_headed, bus_said, sync_said, word_said, words_listed, is_some_text}
 use Rattle.monitor_tables.specs.Fields.{record_text, HasNoExtra}
 use Rattle.monitor_cells.specs.Listening.{silence_before, last_silence, row_heard}
 use Rattle.monitor_tables.specs.declared.hearing.Hearing.{Hearing}
@@ -23,11 +22,7 @@ use Rattle.monitor_tables.specs.declared.recording.MonitorTable.{MonitorTable}
 use Rattle.monitor_cells.specs.declared.setup.RecordingSetup.{RecordingSetup}
 use Rattle.monitor_cells.specs.declared.silence.Silence.{Silence}
 use Rattle.monitor_tables.specs.Messages.{message_heard, no_messages, begins_within, has_unclear_begin, silence_between, late_gap, silence_behind, message_known}
-use Rattle.monitor_tables.specs.declared.fault.EarlyEnd.{EarlyEnd}
-use Rattle.monitor_tables.specs.declared.fault.EarlyEnd.TheVariants.{Refused, Write}
-use Rattle.monitor_tables.specs.declared.records.TableRecords.{TableRecords}
-use Rattle.monitor_tables.specs.Recording.{HeardAt, AreNotable, early_text}
-use Rattle.monitor_tables.specs.Table.{TellsFront}
+use Rattle.monitor_tables.specs.Recording.{HeardAt}
 
 -- ---- fields
 
@@ -49,6 +44,7 @@ has_error_in fields (Some field) = is_some_text (record_text fields field) && no
 pub record SaysTime (text : List ℕ) (time : MonitorTime) : Type 0 where
   pub is : IsTime text
   pub nanos : time.nanos ≡ time_said text
+  pub unit : time.unit ≡ unit_said text
   pub same : time.text.bytes ≡ text
 
 -- the word that a text says, if there is text
@@ -85,13 +81,15 @@ abbrev pub one_noted : Option HeardItem → List HeardAt
 one_noted None = []
 one_noted (Some x) = record { time = []; heard = x } ∷ []
 
--- what is heard of a silence: gaps, a slot, second gaps, the end of a pause, and second gaps that may have come
+-- What is heard of a silence: a slot in which the terminal may be silent, gaps, a slot, second gaps, the end of a pause, and second gaps that may
+-- have come.
 abbrev pub silence_noted : Silence → List HeardAt
 silence_noted s =
-    one_noted s.other_gap
+    one_noted s.maybe_silent
+    ++ (one_noted s.other_gap
     ++ (one_noted s.own_gap
     ++ (one_noted s.slot
-    ++ (one_noted s.other_second ++ (one_noted s.own_second ++ (one_noted s.pause ++ (one_noted s.other_maybe ++ one_noted s.own_maybe))))))
+    ++ (one_noted s.other_second ++ (one_noted s.own_second ++ (one_noted s.pause ++ (one_noted s.other_maybe ++ one_noted s.own_maybe)))))))
 
 -- what is heard with the word of a row: the silence before it, and the word; the next one on the other bus begins at this time
 abbrev pub row_noted : Listening → WordRow → Option ℕ → List HeardAt
@@ -213,14 +211,6 @@ IsHeardOf (Messages columns) setup records ns = (rows : List MessageRow) × AreM
 abbrev pub IsHeardSoFar : TableLayout → RecordingSetup → List (List (List ℕ)) → List HeardAt → Type 0
 IsHeardSoFar (Words columns) setup records ns = (rows : List WordRow) × AreWordRows columns records rows × AreApart (hearing_first setup) rows × (ns ≡ words_begun setup rows)
 IsHeardSoFar (Messages columns) setup records ns = (rows : List MessageRow) × AreMessageRows columns records rows × ComeBehind (no_messages setup) rows × (ns ≡ messages_noted (no_messages setup) rows)
-
--- Why a recording ends early. Just what is heard of the first rows was written, and the line that says which row was refused and how many were
--- written; or the sink failed.
-abbrev pub EndsEarly : {R W : Type 0} → (R → Option (List ℕ)) → (W → Option (List ℕ)) → (W → Bool) → TableLayout → RecordingSetup → TableRecords R → W → W → EarlyEnd → Type 0
-EndsEarly remaining written has_failed layout setup t w w' (Refused it) =
-    (told : List (List (List ℕ))) × TellsFront remaining t told × (it.rows ≡ length told)
-    × (ns : List HeardAt) × IsHeardSoFar layout setup told ns × AreNotable ns × Appends (written w) (written w') (early_text ns it)
-EndsEarly remaining written has_failed layout setup t w w' Write = has_failed w' ≡ true
 
 -- what the rows of a table are, by its header
 abbrev pub layout_of : {R : Type 0} → MonitorTable R → TableLayout

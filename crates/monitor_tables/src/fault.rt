@@ -36,8 +36,8 @@ pub enum MonitorFault {
     /// A word or a message begins before the one above it does.
     #[error("table: {0}: earlier than the row above")]
     Order(CellPlace),
-    /// A word ends within 1 microsecond of one on the other bus, both are of messages to the terminal, and one is a command.
-    #[error("table: {0}: a word of this row and one above, on the other bus, end within 1 microsecond, and what the terminal does depends on their order")]
+    /// A word ends within what times leave open of one on the other bus, both are of messages to the terminal, and one is a command.
+    #[error("table: {0}: a word of this row and one above, on the other bus, end within what their times leave open, and what the terminal does depends on their order")]
     UnclearOrder(CellPlace),
     /// A message begins before the words of the message above it on its bus have ended, or between the commands of the one on the other.
     #[error("table: {0}: the words of the message above on this bus, 20 microseconds each, have not ended, or the second command on the other")]

@@ -1,10 +1,13 @@
 //! The words of a table, in the order in which they are heard or sent.
 ghost use Rattle.std.specs.Prelude.{◌≡◌};
-ghost use Rattle.monitor_tables.specs.Hearing.{hearing_first, begin_beside, comes_first, has_unclear_order, end_read, overlaps, is_early};
+ghost use Rattle.monitor_tables.specs.Hearing.{hearing_first, begin_beside, comes_first, left_open, is_surely_before, has_unclear_order, end_read, overlaps, is_early};
 
 use bus_word::Bus;
 use monitor_cells::{Listening, RecordingSetup, WordRow, is_before_end, word_end};
 use terminal_state::same_bus;
+
+/// What the clock of a word of 20 microseconds leaves open, in nanoseconds: 0.1 % (MIL-STD-1553B, 4.3.3.3).
+const CLOCK: u64 = 20;
 
 /// What was heard so far, and the word that was read and may be heard later than the next one.
 #[derive(Clone, Copy)]
@@ -35,6 +38,21 @@ pub fn comes_first(listening: &Listening, row: &WordRow, held: &WordRow) -> bool
         && listening.is_own_row(row)
         && !listening.is_own_row(held)
         && !is_before_end(listening.row_time(held), Some(time))
+}
+
+/// What times of these units leave open of what lies between them, so many words later.
+pub fn left_open(words: u64, first: u64, second: u64) -> u64
+    ensures { result ≡ left_open words first second }
+{
+    let units = first.saturating_add(second);
+    units.saturating_add(words.saturating_mul(CLOCK))
+}
+
+/// Whether a time is before another by more than is left open.
+pub fn is_surely_before(time: u64, leeway: u64, other: u64) -> bool
+    ensures { result ≡ is_surely_before time leeway other }
+{
+    time.saturating_add(leeway) < other
 }
 
 impl Hearing {
@@ -81,8 +99,9 @@ impl Hearing {
         let listening = &self.listening;
         match &self.held {
             Some(held) => {
+                let leeway = left_open(2, row.time.unit, held.time.unit);
                 !same_bus(row.bus, held.bus)
-                    && !is_before_end(listening.row_time(held), Some(listening.row_time(row)))
+                    && !is_surely_before(listening.row_time(held), leeway, listening.row_time(row))
                     && listening.is_open_row(row)
                     && listening.is_open_row(held)
                     && (listening.is_command_row(row) || listening.is_command_row(held))

@@ -30,7 +30,7 @@ fn push_event(lines: &mut HeardLines, event: &Event)
     lines.push_str("\n");
 }
 
-/// Writes the line of an event that may have come or not.
+/// Writes the line of an event that may have come or not, or of a slot in which the terminal may be silent.
 fn push_maybe(lines: &mut HeardLines, event: &Event)
     requires { array_string_len lines.old ≤ 90 }
     ensures { lines.new.bytes ≡ lines.old.bytes ++ (codes "#? " ++ event_line event.now) }
@@ -66,6 +66,7 @@ fn push_heard(lines: &mut HeardLines, heard: &HeardItem)
         HeardItem::Reply(sent) => push_sent(lines, "slot\n#> ", *sent),
         HeardItem::Late(sent) => push_sent(lines, "# later than no response: ", *sent),
         HeardItem::Slot | HeardItem::Pause => push_event(lines, &Event::Slot),
+        HeardItem::MaybeSilent => push_maybe(lines, &Event::Slot),
         HeardItem::MaybeGap(bus) => push_maybe(lines, &Event::Gap(*bus)),
     }
 }

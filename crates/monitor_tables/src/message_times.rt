@@ -1,13 +1,15 @@
 //! Messages by their times: what is heard of the silences between them.
 ghost use Rattle.std.specs.Prelude.{◌≡◌, ◌-◌, ◌^◌, min};
-ghost use Rattle.monitor_tables.specs.Messages.{is_meant_command, is_own_status, first_or_second, field_words, message_words, message_replies, commands_end, latest_end, words_end, is_awaiting, is_asked, sent_no_status, ends_in_reply, message_last, no_messages, last_message, last_after, message_known, words_of_last, end_of_last, commands_of_last, is_heard_before, begins_within, has_unclear_begin, is_above, gap_at_latest, has_surely_ended, went_on, may_go_on, may_have_ended, gap_between, late_gap, is_pause_between, heard_above, silent_until, is_long_over, is_followed, has_slot_behind, has_slot_between, has_given_up, may_have_given_up, second_between, maybe_between, silence_between, silence_behind};
+ghost use Rattle.monitor_tables.specs.Messages.{is_meant_command, is_own_status, first_or_second, field_words, message_words, message_replies, commands_end, latest_end, words_end, is_awaiting, is_asked, sent_no_status, recovery_with, second_recovery, message_recovery, may_be_unheard, is_last_unheard, may_be_silent, ends_in_reply, message_last, no_messages, last_message, last_after, message_known, words_of_last, end_of_last, commands_of_last, is_heard_before, begins_within, has_unclear_begin, is_above, gap_at_latest, has_surely_ended, went_on, may_go_on, may_have_ended, gap_between, late_gap, is_pause_between, heard_above, silent_until, is_long_over, is_followed, has_slot_behind, has_slot_between, has_given_up, may_have_given_up, second_between, maybe_between, silence_between, silence_behind};
 
+use crate::hearing::{is_surely_before, left_open};
 use crate::messages::{MessageRow, is_own_status};
-use bus_word::Bus;
+use bus_word::{Bus, Command};
 use monitor_cells::{
     HeardItem, LONGEST_WAIT, RecordingSetup, SHORTEST_WAIT, Silence, WORD_TIME, becomes_longer,
     gap_if, has_lasted, has_passed, is_before_end, is_meant_for, is_over_before, later_end,
-    maybe_gap_if, other_bus, pause_if, slot_if, word_end,
+    may_be_deaf, maybe_gap_if, maybe_silent_if, other_bus, pause_if, recovered_at, slot_if,
+    word_end,
 };
 use terminal_state::same_bus;
 
@@ -16,6 +18,8 @@ use terminal_state::same_bus;
 pub struct LastMessage {
     /// When it begins.
     begin: u64,
+    /// What the last digit of that time counts.
+    unit: u64,
     /// When its command words end.
     commands_end: u64,
     /// When its words have ended at the earliest.
@@ -28,6 +32,8 @@ pub struct LastMessage {
     is_awaiting: bool,
     /// Whether the terminal sent no status word, though a command is for it.
     sent_no_status: bool,
+    /// Whether that may be since it has not heard the message.
+    may_be_unheard: bool,
     /// Whether the last words are the reply of the terminal.
     ends_in_reply: bool,
 }
@@ -43,6 +49,8 @@ pub struct MessageTimes {
     above: Option<Bus>,
     /// When all have ended at the latest, if there were any.
     end: Option<u64>,
+    /// Until when the terminal may be deaf, behind a reset or a self test, if it ever may.
+    recovering: Option<u64>,
     a: Option<LastMessage>,
     b: Option<LastMessage>,
 }
@@ -138,6 +146,36 @@ fn sent_no_status(address: u8, row: &MessageRow) -> bool
         && !is_own_status(address, row.status2)
 }
 
+/// How long the terminal may be deaf behind a message with this command: it replied to that, or that is to all.
+fn recovery_with(setup: &RecordingSetup, row: &MessageRow, command: u16) -> u64
+    ensures { result ≡ recovery_with setup.now row.now command }
+{
+    let to = Command::of(command);
+    let has_replied = to.address() == setup.address && !sent_no_status(setup.address, row);
+    if to.is_broadcast() || has_replied {
+        setup.recovery_of(command)
+    } else {
+        0
+    }
+}
+
+/// The same of the second command, if there is one.
+fn second_recovery(setup: &RecordingSetup, row: &MessageRow, command: Option<u16>) -> u64
+    ensures { result ≡ second_recovery setup.now row.now command }
+{
+    match command {
+        Some(command) => recovery_with(setup, row, command),
+        None => 0,
+    }
+}
+
+/// How long the terminal may be deaf behind a message.
+fn message_recovery(setup: &RecordingSetup, row: &MessageRow) -> u64
+    ensures { result ≡ message_recovery setup.now row.now }
+{
+    recovery_with(setup, row, row.command).max(second_recovery(setup, row, row.command2))
+}
+
 /// Whether the last words of a message are the reply of the terminal.
 fn ends_in_reply(address: u8, row: &MessageRow) -> bool
     ensures { result ≡ ends_in_reply address row.now }
@@ -145,19 +183,13 @@ fn ends_in_reply(address: u8, row: &MessageRow) -> bool
     is_own_status(address, first_or_second(row.status2, row.status))
 }
 
-/// A message, as the last one on its bus.
-fn message_last(setup: &RecordingSetup, row: &MessageRow) -> LastMessage
-    ensures { result ≡ message_last setup.now row.now }
+/// Whether the terminal may not have heard the last message on a bus.
+fn is_last_unheard(last: &Option<LastMessage>) -> bool
+    ensures { result ≡ is_last_unheard last.now }
 {
-    LastMessage {
-        begin: row.time.nanos,
-        commands_end: commands_end(row),
-        words_end: words_end(row),
-        end: latest_end(setup, row),
-        is_asked: is_asked(setup.address, row),
-        is_awaiting: is_awaiting(setup.address, row),
-        sent_no_status: sent_no_status(setup.address, row),
-        ends_in_reply: ends_in_reply(setup.address, row),
+    match last {
+        Some(message) => message.may_be_unheard,
+        None => false,
     }
 }
 
@@ -243,6 +275,7 @@ impl MessageTimes {
             begin: 0,
             above: None,
             end: None,
+            recovering: None,
             a: None,
             b: None,
         }
@@ -278,7 +311,11 @@ impl MessageTimes {
             Some(message) => {
                 message.is_asked
                     && is_asked(self.setup.address, row)
-                    && !is_before_end(message.commands_end, Some(word_end(row.time.nanos)))
+                    && !is_surely_before(
+                        message.commands_end,
+                        left_open(3, row.time.unit, message.unit),
+                        word_end(row.time.nanos),
+                    )
             }
             None => false,
         }
@@ -336,11 +373,13 @@ impl MessageTimes {
     {
         match last {
             Some(message) => {
-                let commands = commands_of_last(&self.last_message(other_bus(bus)));
-                let is_silent = message.sent_no_status || message.ends_in_reply;
+                let other = self.last_message(other_bus(bus));
+                let has_heard = !message.may_be_unheard;
+                let is_silent = (message.sent_no_status && has_heard) || message.ends_in_reply;
                 ((is_silent && self.is_long_over(message, time))
                     || self.is_followed(message, is_here))
-                    && is_over_before(commands, word_end(message.begin))
+                    && is_over_before(commands_of_last(&other), word_end(message.begin))
+                    && is_over_before(end_of_last(&other), time)
             }
             None => false,
         }
@@ -353,6 +392,16 @@ impl MessageTimes {
         let last = self.last_message(bus);
         let is_here = same_bus(bus, row.bus);
         self.has_slot_behind(bus, &last, is_here, silent_until(row, bus))
+    }
+
+    /// Whether there is a slot behind the message above in which the terminal may be silent, since it may not have heard the message.
+    fn may_be_silent(&self) -> bool
+        ensures { result ≡ may_be_silent self.now }
+    {
+        match self.above {
+            Some(bus) => is_last_unheard(&self.last_message(bus)),
+            None => false,
+        }
     }
 
     /// Whether the terminal has given up by this time waiting for the status word of another.
@@ -463,6 +512,7 @@ impl MessageTimes {
         let other = other_bus(own);
         let is_pause = self.is_pause_between(row.time.nanos);
         Silence {
+            maybe_silent: maybe_silent_if(self.may_be_silent()),
             other_gap: self.gap_between(row, other),
             own_gap: self.gap_between(row, own),
             slot: slot_if(self.has_slot_between(row, other) || self.has_slot_between(row, own)),
@@ -482,6 +532,7 @@ impl MessageTimes {
         let is_slot = self.has_slot_behind(Bus::A, &self.a, false, forever)
             || self.has_slot_behind(Bus::B, &self.b, false, forever);
         Silence {
+            maybe_silent: None,
             other_gap: gap_if(self.is_above(Bus::A), Bus::A),
             own_gap: gap_if(self.is_above(Bus::B), Bus::B),
             slot: slot_if(is_slot),
@@ -493,12 +544,38 @@ impl MessageTimes {
         }
     }
 
+    /// Whether the terminal may not have heard a message.
+    fn may_be_unheard(&self, row: &MessageRow) -> bool
+        ensures { result ≡ may_be_unheard self.now row.now }
+    {
+        sent_no_status(self.setup.address, row) && may_be_deaf(self.recovering, row.time.nanos)
+    }
+
+    /// A message, as the last one on its bus.
+    fn message_last(&self, row: &MessageRow) -> LastMessage
+        ensures { result ≡ message_last self.now row.now }
+    {
+        let setup = &self.setup;
+        LastMessage {
+            begin: row.time.nanos,
+            unit: row.time.unit,
+            commands_end: commands_end(row),
+            words_end: words_end(row),
+            end: latest_end(setup, row),
+            is_asked: is_asked(setup.address, row),
+            is_awaiting: is_awaiting(setup.address, row),
+            sent_no_status: sent_no_status(setup.address, row),
+            may_be_unheard: self.may_be_unheard(row),
+            ends_in_reply: ends_in_reply(setup.address, row),
+        }
+    }
+
     /// The last message on a bus after one more.
     fn last_after(&self, row: &MessageRow, bus: Bus) -> Option<LastMessage>
         ensures { result ≡ last_after self.now row.now bus }
     {
         if same_bus(bus, row.bus) {
-            Some(message_last(&self.setup, row))
+            Some(self.message_last(row))
         } else {
             self.last_message(bus)
         }
@@ -509,11 +586,13 @@ impl MessageTimes {
         ensures { self.new ≡ message_known self.old row.now }
     {
         let end = latest_end(&self.setup, row);
+        let recovery = message_recovery(&self.setup, row);
         *self = MessageTimes {
             setup: self.setup,
             begin: row.time.nanos,
             above: Some(row.bus),
             end: later_end(self.end, Some(end)),
+            recovering: recovered_at(self.recovering, end, recovery),
             a: self.last_after(row, Bus::A),
             b: self.last_after(row, Bus::B),
         };

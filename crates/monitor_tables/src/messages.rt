@@ -1,7 +1,9 @@
 //! Tables whose rows are messages.
-ghost use Rattle.std.specs.Prelude.{◌≡◌, ◌++◌, false, OnOk, IfOk};
+ghost use Rattle.std.specs.Prelude.{◌≡◌, ◌++◌, false, OnOk, IfOk, MatchResult};
 ghost use Rattle.csv.specs.Records.{fields_of};
 ghost use Rattle.monitor_tables.specs.Header.{AreMessageColumns};
+ghost use Rattle.monitor_tables.specs.Refused.{IsNoMessageRow};
+ghost use Rattle.monitor_tables.specs.inner.Faults.{IsNoSomeWord, IsNoWords, IsUnclear};
 ghost use Rattle.monitor_tables.specs.Rows.{has_error_in, SaysSomeWord, SaysWords, IsMessageRow};
 ghost use Rattle.monitor_tables.specs.Messages.{word_by, is_own_status, status_heard, command_heard, data_heard, gaps_heard, behind_gaps, may_be_late, is_from_controller, commands_heard, reply_heard, message_heard};
 
@@ -51,7 +53,7 @@ fn read_some_word(
     line: u64,
     field: Option<usize>,
 ) -> Result<Option<u16>, MonitorFault>
-    ensures { IfOk result (SaysSomeWord (fields_of row.now) field) }
+    ensures { MatchResult result (SaysSomeWord (fields_of row.now) field) (IsNoSomeWord (fields_of row.now) line field) }
 {
     match field {
         Some(field) if has_text_in(row, Some(field)) => {
@@ -68,7 +70,7 @@ fn read_words_field(
     line: u64,
     field: Option<usize>,
 ) -> Result<Vec<u16>, MonitorFault>
-    ensures { IfOk result (λ words. SaysWords (fields_of row.now) field words.items) }
+    ensures { MatchResult result (λ words. SaysWords (fields_of row.now) field words.items) (IsNoWords (fields_of row.now) line field) }
 {
     let Some(field) = field else {
         return Ok(Vec::new(alloc));
@@ -103,7 +105,7 @@ impl MessageColumns {
 
     /// Refuses a row with an error.
     fn refuse_error(&self, row: &ByteRecord, line: u64) -> Result<(), MonitorFault>
-        ensures { OnOk result (has_error_in (fields_of row.now) self.now.error ≡ false) }
+        ensures { MatchResult result (λ _. has_error_in (fields_of row.now) self.now.error ≡ false) (IsUnclear (fields_of row.now) line self.now.error) }
     {
         match self.error {
             Some(field) if has_error_in(row, Some(field)) => {
@@ -120,7 +122,7 @@ impl MessageColumns {
         row: &ByteRecord,
         line: u64,
     ) -> Result<MessageRow, MonitorFault>
-        ensures { IfOk result (IsMessageRow self.now (fields_of row.now)) }
+        ensures { MatchResult result (IsMessageRow self.now (fields_of row.now)) (IsNoMessageRow self.now (fields_of row.now) line) }
     {
         refuse_extra(row, line, self.width)?;
         self.refuse_error(row, line)?;

@@ -7,10 +7,11 @@ ghost use Rattle.monitor_cells.specs.Listening.{row_known};
 ghost use Rattle.monitor_tables.specs.Hearing.{hearing_known, all_known};
 ghost use Rattle.monitor_tables.specs.Header.{IsLayoutOf, AreLeftOut};
 ghost use Rattle.monitor_tables.specs.Messages.{message_heard, message_known};
-ghost use Rattle.monitor_tables.specs.Rows.{IsWordRow, one_noted, silence_noted, row_noted, hearing_noted, held_noted, IsApart, untimed, timed, message_noted, IsMessageRow, ComesBehind, IsHeardOf, EndsEarly, layout_of};
+ghost use Rattle.monitor_tables.specs.Rows.{IsWordRow, one_noted, silence_noted, row_noted, hearing_noted, held_noted, IsApart, untimed, timed, message_noted, IsMessageRow, ComesBehind, IsHeardOf, layout_of};
+ghost use Rattle.monitor_tables.specs.Refused.{EndsEarly};
 ghost use Rattle.monitor_tables.specs.Table.{HasTold, TellsAll, records_of};
-ghost use Rattle.monitor_tables.specs.inner.Puts.{PutsNoted, HasText, ToldTo, WordsSoFar, MessagesSoFar, PutsRows};
-ghost use Rattle.monitor_tables.specs.inner.Reads.{TellsMore};
+ghost use Rattle.monitor_tables.specs.inner.Puts.{PutsNoted, HasText, ToldTo, WordsSoFar, MessagesSoFar, WordsRefused, MessagesRefused, PutsRows};
+ghost use Rattle.monitor_tables.specs.inner.Reads.{TellsMore, RefusesWord, RefusesMessage};
 
 use crate::fault::{EarlyEnd, MonitorFault, RefusedRow};
 use crate::header::{LeftOutColumn, TableLayout, left_out, read_layout};
@@ -87,6 +88,7 @@ fn put_silence<W: Sink>(sink: &mut W, silence: &Silence) -> Result<(), IoFailed>
     ensures puts { OnOk result (PutsNoted W.written sink.old sink.new (silence_noted silence.now)) }
     ensures failed { OnErr result (W.has_failed sink.new ≡ true) }
 {
+    put_some(sink, silence.maybe_silent)?;
     put_some(sink, silence.other_gap)?;
     put_some(sink, silence.own_gap)?;
     put_some(sink, silence.slot)?;
@@ -103,7 +105,8 @@ fn next_word<R: Read + Drop>(
     columns: &WordColumns,
     hearing: &Hearing,
 ) -> Result<Option<WordRow>, MonitorFault>
-    ensures { IfOk result (λ next. MatchOption next (TellsAll R.remaining records.old []) (λ row. (fields : List (List ℕ)) × IsWordRow columns.now fields row × TellsMore R.remaining records.old records.new (fields ∷ []) × IsApart hearing.now row)) }
+    ensures refused { IfErr result (RefusesWord R.remaining columns.now hearing.now records.old records.new) }
+    ensures next { IfOk result (λ next. MatchOption next (TellsAll R.remaining records.old []) (λ row. (fields : List (List ℕ)) × IsWordRow columns.now fields row × TellsMore R.remaining records.old records.new (fields ∷ []) × IsApart hearing.now row)) }
 {
     if !records.next()? {
         return Ok(None);
@@ -175,6 +178,8 @@ fn put_held<W: Sink>(sink: &mut W, hearing: &mut Hearing) -> Result<(), IoFailed
 #[derive(Clone, Copy)]
 pub struct RowsPut {
     pub rows: u64,
+    /// The line of the row that was read last, or looked for.
+    pub line: u64,
     pub fault: Option<MonitorFault>,
 }
 
@@ -186,16 +191,21 @@ fn put_word_rows<R: Read + Drop, W: Sink>(
     sink: &mut W,
 ) -> Result<RowsPut, IoFailed>
     requires { HasText hearing.old }
-    ensures puts { IfOk result (λ put. (told : List (List (List ℕ))) × ToldTo R.remaining records.old told put × WordsSoFar W.written columns.now told hearing.old hearing.new sink.old sink.new) }
+    ensures puts { IfOk result (λ put. (told : List (List (List ℕ))) × ToldTo R.remaining records.old told put × WordsSoFar W.written columns.now told hearing.old hearing.new sink.old sink.new × WordsRefused R.remaining columns.now hearing.new records.old told put) }
     ensures failed { IfErr result (λ _. W.has_failed sink.new ≡ true) }
 {
     'rows: for rows in 0..u64::MAX {
         match next_word(records, columns, hearing) {
             Ok(Some(row)) => put_word_row(sink, hearing, &row)?,
-            Ok(None) => return Ok(RowsPut { rows, fault: None }),
+            Ok(None) => return Ok(RowsPut {
+                rows,
+                line: records.line,
+                fault: None,
+            }),
             Err(fault) => {
                 return Ok(RowsPut {
                     rows,
+                    line: records.line,
                     fault: Some(fault),
                 });
             }
@@ -203,6 +213,7 @@ fn put_word_rows<R: Read + Drop, W: Sink>(
     }
     Ok(RowsPut {
         rows: u64::MAX,
+        line: records.line,
         fault: Some(MonitorFault::Read),
     })
 }
@@ -273,7 +284,8 @@ fn next_message<R: Read + Drop>(
     columns: &MessageColumns,
     times: &MessageTimes,
 ) -> Result<Option<NextMessage>, MonitorFault>
-    ensures { IfOk result (λ next. MatchOption next (TellsAll R.remaining records.old []) (λ message. (fields : List (List ℕ)) × IsMessageRow columns.now fields message.row × TellsMore R.remaining records.old records.new (fields ∷ []) × ComesBehind times.now message.row × (message.heard.items ≡ message_heard times.now.setup.address message.row))) }
+    ensures refused { IfErr result (RefusesMessage R.remaining columns.now times.now records.old records.new) }
+    ensures next { IfOk result (λ next. MatchOption next (TellsAll R.remaining records.old []) (λ message. (fields : List (List ℕ)) × IsMessageRow columns.now fields message.row × TellsMore R.remaining records.old records.new (fields ∷ []) × ComesBehind times.now message.row × (message.heard.items ≡ message_heard times.now.setup.address message.row))) }
 {
     if !records.next()? {
         return Ok(None);
@@ -319,16 +331,21 @@ fn put_message_rows<R: Read + Drop, W: Sink>(
     times: &mut MessageTimes,
     sink: &mut W,
 ) -> Result<RowsPut, IoFailed>
-    ensures puts { IfOk result (λ put. (told : List (List (List ℕ))) × ToldTo R.remaining records.old told put × MessagesSoFar W.written columns.now told times.old times.new sink.old sink.new) }
+    ensures puts { IfOk result (λ put. (told : List (List (List ℕ))) × ToldTo R.remaining records.old told put × MessagesSoFar W.written columns.now told times.old times.new sink.old sink.new × MessagesRefused R.remaining columns.now times.new records.old told put) }
     ensures failed { IfErr result (λ _. W.has_failed sink.new ≡ true) }
 {
     'rows: for rows in 0..u64::MAX {
         match next_message(alloc, records, columns, times) {
             Ok(Some(message)) => put_message_row(&message, times, sink)?,
-            Ok(None) => return Ok(RowsPut { rows, fault: None }),
+            Ok(None) => return Ok(RowsPut {
+                rows,
+                line: records.line,
+                fault: None,
+            }),
             Err(fault) => {
                 return Ok(RowsPut {
                     rows,
+                    line: records.line,
                     fault: Some(fault),
                 });
             }
@@ -336,6 +353,7 @@ fn put_message_rows<R: Read + Drop, W: Sink>(
     }
     Ok(RowsPut {
         rows: u64::MAX,
+        line: records.line,
         fault: Some(MonitorFault::Read),
     })
 }
@@ -398,7 +416,7 @@ pub fn write_recording<R: Read + Drop, W: Sink>(
             sink,
             RefusedRow {
                 fault,
-                row: table.records.line,
+                row: put.line,
                 rows: put.rows,
             },
         )),

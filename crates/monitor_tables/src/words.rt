@@ -4,6 +4,8 @@ ghost use Rattle.csv.specs.Records.{fields_of};
 ghost use Rattle.monitor_cells.specs.Cells.{bus_said, word_said};
 ghost use Rattle.monitor_tables.specs.Fields.{record_text};
 ghost use Rattle.monitor_tables.specs.Header.{AreWordColumns};
+ghost use Rattle.monitor_tables.specs.Refused.{IsNoWordRow};
+ghost use Rattle.monitor_tables.specs.inner.Faults.{IsNoTimeField, IsNoBusField, IsNoWordField};
 ghost use Rattle.monitor_tables.specs.Rows.{has_text_in, says_no_error, has_error_in, SaysTime, seen_said, IsWordRow};
 
 use crate::column::MonitorColumn;
@@ -35,7 +37,7 @@ pub fn read_time_field(
     line: u64,
     field: usize,
 ) -> Result<MonitorTime, MonitorFault>
-    ensures { IfOk result (SaysTime (record_text (fields_of row.now) field)) }
+    ensures { MatchResult result (SaysTime (record_text (fields_of row.now) field)) (IsNoTimeField (fields_of row.now) line field) }
 {
     match read_time(field_of(row, field)) {
         Some(time) => Ok(time),
@@ -45,7 +47,7 @@ pub fn read_time_field(
 
 /// The bus in a field of a row.
 pub fn read_bus_field(row: &ByteRecord, line: u64, field: usize) -> Result<Bus, MonitorFault>
-    ensures { MatchResult result (λ bus. bus_said (record_text (fields_of row.now) field) ≡ Some bus) (λ _. bus_said (record_text (fields_of row.now) field) ≡ None) }
+    ensures { MatchResult result (λ bus. bus_said (record_text (fields_of row.now) field) ≡ Some bus) (IsNoBusField (fields_of row.now) line field) }
 {
     match read_bus_cell(field_of(row, field)) {
         Some(bus) => Ok(bus),
@@ -55,7 +57,7 @@ pub fn read_bus_field(row: &ByteRecord, line: u64, field: usize) -> Result<Bus, 
 
 /// The word in a field of a row.
 pub fn read_word_field(row: &ByteRecord, line: u64, field: usize) -> Result<u16, MonitorFault>
-    ensures { MatchResult result (λ word. word_said (record_text (fields_of row.now) field) ≡ Some word) (λ _. word_said (record_text (fields_of row.now) field) ≡ None) }
+    ensures { MatchResult result (λ word. word_said (record_text (fields_of row.now) field) ≡ Some word) (IsNoWordField (fields_of row.now) line field) }
 {
     match read_word_cell(field_of(row, field)) {
         Some(word) => Ok(word),
@@ -107,7 +109,7 @@ impl WordColumns {
 
     /// What a row says of its word: of one with an error nothing more.
     fn read_seen(&self, row: &ByteRecord, line: u64) -> Result<SeenWord, MonitorFault>
-        ensures { IfOk result (λ word. seen_said self.now (fields_of row.now) ≡ Some word) }
+        ensures { MatchResult result (λ word. seen_said self.now (fields_of row.now) ≡ Some word) (IsNoWordRow self.now (fields_of row.now) line) }
     {
         if has_error_in(row, self.error) {
             return Ok(SeenWord::Noise);
@@ -121,7 +123,7 @@ impl WordColumns {
 
     /// What a row says.
     pub fn read_row(&self, row: &ByteRecord, line: u64) -> Result<WordRow, MonitorFault>
-        ensures { IfOk result (IsWordRow self.now (fields_of row.now)) }
+        ensures { MatchResult result (IsWordRow self.now (fields_of row.now)) (IsNoWordRow self.now (fields_of row.now) line) }
     {
         refuse_extra(row, line, self.width)?;
         Ok(WordRow {

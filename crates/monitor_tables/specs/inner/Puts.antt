@@ -1,5 +1,5 @@
 -- What was written of what was heard.
-use Rattle.std.specs.Prelude.{ℕ, ◌≡◌, List, length, Option, MatchOption, IfSome, true}
+use Rattle.std.specs.Prelude.{ℕ, ◌≡◌, ◌⊎◌, List, [], ◌∷◌, ◌++◌, length, Option, MatchOption, IfSome, true}
 use Rattle.std.specs.Io.KnownBytes.{Appends}
 use Rattle.monitor_tables.specs.declared.header.TableLayout.{TableLayout}
 use Rattle.monitor_cells.specs.Cells.{is_time_text}
@@ -14,6 +14,7 @@ use Rattle.monitor_tables.specs.declared.fault.MonitorFault.{MonitorFault}
 use Rattle.monitor_tables.specs.declared.recording.RowsPut.{RowsPut}
 use Rattle.monitor_tables.specs.declared.records.TableRecords.{TableRecords}
 use Rattle.monitor_tables.specs.Table.{TellsAll, TellsFront}
+use Rattle.monitor_tables.specs.Refused.{IsUnreadFault, IsRefusedWord, IsRefusedMessage, RefusesNext}
 use Rattle.monitor_tables.specs.Rows.{AreWordRows, AreApart, AreMessageRows, ComeBehind, rows_known, rows_noted, messages_known, messages_noted, IsHeardOf, IsHeardSoFar}
 use Rattle.monitor_tables.specs.Recording.{HeardAt, recording_text, AreNotable}
 
@@ -47,6 +48,16 @@ pub record MessagesSoFar {W : Type 0} (written : W → Option (List ℕ)) (colum
 abbrev pub ToldTo : {R : Type 0} → (R → Option (List ℕ)) → TableRecords R → List (List (List ℕ)) → RowsPut → Type 0
 ToldTo remaining t told put = (put.rows ≡ length told) × MatchOption put.fault (TellsAll remaining t told) (λ _. TellsFront remaining t told)
 
+-- the fault that came: no record was read, or the next one is refused behind the words that were heard
+abbrev pub WordsRefused : {R : Type 0} → (R → Option (List ℕ)) → WordColumns → Hearing → TableRecords R → List (List (List ℕ)) → RowsPut → Type 0
+WordsRefused remaining columns g t told put = IfSome put.fault (λ fault.
+    IsUnreadFault fault ⊎ ((fields : List (List ℕ)) × TellsFront remaining t (told ++ fields ∷ []) × IsRefusedWord columns g fields put.line fault))
+
+-- the same of messages
+abbrev pub MessagesRefused : {R : Type 0} → (R → Option (List ℕ)) → MessageColumns → MessageTimes → TableRecords R → List (List (List ℕ)) → RowsPut → Type 0
+MessagesRefused remaining columns u t told put = IfSome put.fault (λ fault.
+    IsUnreadFault fault ⊎ ((fields : List (List ℕ)) × TellsFront remaining t (told ++ fields ∷ []) × IsRefusedMessage columns u fields put.line fault))
+
 -- this is all that is heard of a table, or of its first rows, and then a fault came
 abbrev pub IsHeardTo : TableLayout → RecordingSetup → List (List (List ℕ)) → List HeardAt → Option MonitorFault → Type 0
 IsHeardTo layout setup records ns fault = MatchOption fault (IsHeardOf layout setup records ns) (λ _. IsHeardSoFar layout setup records ns)
@@ -55,6 +66,7 @@ IsHeardTo layout setup records ns fault = MatchOption fault (IsHeardOf layout se
 pub record PutsRows {R W : Type 0} (remaining : R → Option (List ℕ)) (written : W → Option (List ℕ)) (layout : TableLayout) (setup : RecordingSetup) (t : TableRecords R) (w w' : W) (put : RowsPut) : Type 0 where
   pub told : List (List (List ℕ))
   pub to : ToldTo remaining t told put
+  pub refused : IfSome put.fault (RefusesNext remaining layout setup t told put.line)
   pub ns : List HeardAt
   pub heard : IsHeardTo layout setup told ns put.fault
   pub puts : PutsNoted written w w' ns
