@@ -1,7 +1,7 @@
 -- Laws of proposals: a text explains a recording exactly if what can be reached of it does.
 use Rattle.std.proofs.Common.{ℕ, ◌≡◌, ◌≤◌, ◌∙◌, ◌↔◌, Bool, List, [], ◌∷◌, Result, Ok, Err, IfOk, IsTrue, sym, ap, subst, refl}
 use Rattle.std.specs.Prelude.{Option, Some, None, is_some, not, true, false}
-use Rattle.std.specs.declared.alloc.AllocError.{AllocError}
+use Rattle.recorded_terminal.specs.declared.watch.WatchFault.{WatchFault}
 use Rattle.bus_legal.specs.Description.{Description}
 use Rattle.bus_legal.specs.Parts.{Parts, description_in, IsNormal}
 use Rattle.bus_legal.specs.Reach.{reach}
@@ -54,7 +54,7 @@ proposal_explains text v address recording normal r p =
 pub proposal_address : (text : List ℕ) (v : Parts) (address : ℕ) (recording : List MaybeSighting) → Reaches text v → IsProposal address recording text → v.address ≡ address
 proposal_address text v address recording r p = ap (λ D. D.address) (r.reached ∙ ap reach (one_description text r.description p.description r.of (is_of text address recording p))) ∙ p.own
 
-pub decides : (text : List ℕ) (v : Parts) (address : ℕ) (recording : List MaybeSighting) (r : Result Bool AllocError) → is_canon_text text ≡ false → IsNormal v → Reaches text v → v.address ≡ address
+pub decides : (text : List ℕ) (v : Parts) (address : ℕ) (recording : List MaybeSighting) (r : Result Bool WatchFault) → is_canon_text text ≡ false → IsNormal v → Reaches text v → v.address ≡ address
     → IfOk r (λ truth. IsTrue truth ↔ ExplainsReading (IsExplained (description_in v)) recording) → IfOk r (λ truth. IsTrue truth ↔ IsProposal address recording text)
 decides text v address recording (Err e) toml normal reaches own decided = tt
 decides text v address recording (Ok truth) toml normal reaches own decided = (

@@ -1,19 +1,21 @@
 //! Whether a profile text may be proposed: whether it explains the recording.
-ghost use Rattle.std.specs.Prelude.{◌≡◌, ◌↔◌, IfOk, IsTrue};
+ghost use Rattle.std.specs.Prelude.{◌≡◌, ◌↔◌, IfErr, IfOk, IsTrue};
 ghost use Rattle.bus_legal.specs.Parts.{description_in, IsNormal};
 ghost use Rattle.terminal_recordings.specs.Recordings.{IsExplained};
 ghost use Rattle.terminal_recordings.specs.MaybeGaps.{ExplainsReading};
-ghost use Rattle.recorded_terminal.specs.Marks.{maybe_in};
+ghost use Rattle.recorded_terminal.specs.Marks.{maybe_in, HasManyWays};
+ghost use Rattle.recorded_terminal.specs.declared.watch.WatchFault.TheVariants.{TooManyWays};
 ghost use Rattle.rt1553.specs.Load.{is_canon_text};
 ghost use Rattle.inferred_profiles.specs.Proposed.{IsProposal};
 
-use recorded_terminal::{Marked, Watch};
+use recorded_terminal::{Marked, Watch, WatchFault};
 use rt1553::{LoadFault, Normal, load};
-use std::alloc::{AllocError, Global};
+use std::alloc::Global;
 
 /// Tells whether some behaviour of the subsystem makes this terminal send what was seen.
-fn is_explained(alloc: Global, normal: &Normal, recording: &[Marked]) -> Result<bool, AllocError>
+fn is_explained(alloc: Global, normal: &Normal, recording: &[Marked]) -> Result<bool, WatchFault>
     ensures explained { IfOk result (λ truth. IsTrue truth ↔ ExplainsReading (IsExplained (description_in normal.now)) (maybe_in recording.now)) }
+    ensures refused { IfErr result (λ fault. fault ≡ TooManyWays → HasManyWays (maybe_in recording.now)) }
     ensures normal { IsNormal normal.now }
 {
     let mut watch = Watch::power_up(alloc, normal.setup(), *normal)?;
@@ -37,8 +39,9 @@ pub fn is_proposal(
     address: u8,
     recording: &[Marked],
     text: &str,
-) -> Result<bool, AllocError>
-    ensures { IfOk result (λ truth. IsTrue truth ↔ IsProposal address (maybe_in recording.now) text.now) }
+) -> Result<bool, WatchFault>
+    ensures proposed { IfOk result (λ truth. IsTrue truth ↔ IsProposal address (maybe_in recording.now) text.now) }
+    ensures refused { IfErr result (λ fault. fault ≡ TooManyWays → HasManyWays (maybe_in recording.now)) }
 {
     let bytes = text.as_bytes();
     if is_canon_text(bytes) {
@@ -50,7 +53,7 @@ pub fn is_proposal(
         } else {
             Ok(false)
         },
-        Err(LoadFault::Memory) => Err(AllocError),
+        Err(LoadFault::Memory) => Err(WatchFault::Memory),
         Err(LoadFault::Profile(_)) => Ok(false),
         Err(LoadFault::Canon(_)) => Ok(false),
     }

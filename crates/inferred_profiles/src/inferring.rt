@@ -1,6 +1,7 @@
 //! A profile that explains a recording, by trials.
-ghost use Rattle.std.specs.Prelude.{◌≤◌, IfOk, IfSome, string_bytes};
-ghost use Rattle.recorded_terminal.specs.Marks.{maybe_in};
+ghost use Rattle.std.specs.Prelude.{◌≡◌, ◌≤◌, IfErr, IfOk, IfSome, string_bytes};
+ghost use Rattle.recorded_terminal.specs.Marks.{maybe_in, HasManyWays};
+ghost use Rattle.recorded_terminal.specs.declared.watch.WatchFault.TheVariants.{TooManyWays};
 ghost use Rattle.inferred_profiles.specs.Proposed.{IsProposal};
 
 use crate::asked::{Asked, asked_in};
@@ -10,7 +11,7 @@ use crate::evidence::Evidence;
 use crate::following::{GuessOutcome, outcome_of};
 use crate::guess::Guess;
 use crate::proposal::{Proposal, Unseen};
-use recorded_terminal::{Marked, Sighting, maybe_gap, sightings_of};
+use recorded_terminal::{Marked, Sighting, WatchFault, maybe_gap, sightings_of};
 use std::alloc::{AllocError, Global};
 
 /// How many assumptions there are.
@@ -106,14 +107,15 @@ fn certain_in(alloc: Global, recording: &[Marked]) -> Result<Vec<Marked>, AllocE
 
 /// Proposes a profile for the terminal of this address, from a recording of it that begins at power-up: a text in TOML that explains the
 /// recording, with comments that say what shows each entry. None where none of at most 18 trials finds one; they leave out gaps that may
-/// have come.
+/// have come. Too many ways come only of such gaps, and leave room for them.
 pub fn infer(
     alloc: Global,
     address: u8,
     unseen: Unseen,
     recording: &[Marked],
-) -> Result<Option<String>, AllocError>
-    ensures { IfOk result (λ found. IfSome found (λ text. IsProposal address (maybe_in recording.now) (string_bytes text))) }
+) -> Result<Option<String>, WatchFault>
+    ensures found { IfOk result (λ found. IfSome found (λ text. IsProposal address (maybe_in recording.now) (string_bytes text))) }
+    ensures refused { IfErr result (λ fault. fault ≡ TooManyWays → HasManyWays (maybe_in recording.now)) }
 {
     if 30 < address {
         return Ok(None);

@@ -1,7 +1,8 @@
 -- What a script says that states its answers: `#> LINE` behind the event that LINE of the transcript answers; `#~ MASK` behind one
 -- that a line answers of which MASK says all but the digits at its dots, and `#~ *` behind one that any line answers; and `#+ REST`
 -- behind an answer that goes on with a space and REST. A line `#! row ..` says that the recording ends before its table does. In a recording
--- `#? A gap` or `#? B gap` says that a gap may have come on that bus, or not. All else is read as in any script.
+-- `#? A gap` or `#? B gap` says that a gap may have come on that bus, or not, and `#? slot` that the unit may have been silent in a slot, whatever
+-- it had to send. All else is read as in any script.
 use Rattle.std.specs.Prelude.{ℕ, ◌+◌, Bool, true, false, not, ◌&&◌, ◌||◌, ◌==◌, nat_le, nat_lt, if◌then◌else◌, List, [], ◌∷◌, ◌++◌, Option, Some, None, option_map, length, map, filter, Result, Ok, Err, codes}
 use Rattle.terminal_rules.specs.declared.event.Event.{Event}
 use Rattle.std.specs.Str.{bytes_eq}
@@ -12,7 +13,7 @@ use Rattle.script_lines.specs.Line.{meaning}
 use Rattle.script_lines.specs.Text.{lines_of}
 use Rattle.refused_lines.specs.Refused.{mistyped}
 use Rattle.rt1553_verify.specs.declared.matching.Matching.{Matching}
-use Rattle.rt1553_verify.specs.declared.matching.Matching.TheVariants.{Exact, Masked, AnyLine, Unchecked, MaybeGap}
+use Rattle.rt1553_verify.specs.declared.matching.Matching.TheVariants.{Exact, Masked, AnyLine, Unchecked, Maybe}
 use Rattle.rt1553_verify.specs.declared.stated.Stated.{Stated}
 use Rattle.rt1553_verify.specs.declared.stated.AfterLine.{AfterLine}
 use Rattle.rt1553_verify.specs.declared.stated.ScriptWarning.{ScriptWarning}
@@ -59,7 +60,7 @@ fits Exact answer came = bytes_eq came answer
 fits Masked mask came = fits_mask mask came
 fits AnyLine _ came = not (is_empty came)
 fits Unchecked _ came = true
-fits MaybeGap _ came = true
+fits Maybe _ came = true
 
 -- an answer is stated of the event
 abbrev pub states_answer : StatedEvent → Bool
@@ -181,9 +182,9 @@ small_digits (b ∷ bytes) = b ∷ map small_digit bytes
 abbrev pub Latest : Type 0
 Latest = Option StatedEvent
 
--- a gap that may have come or not
+-- the event may have come or not
 abbrev pub is_maybe : Matching → Bool
-is_maybe MaybeGap = true
+is_maybe Maybe = true
 is_maybe _ = false
 
 -- an answer can be stated of the event: it came, and none was stated so far
@@ -257,21 +258,22 @@ abbrev pub then_event : ℕ → Event → Matching → Result (List StatedEvent)
 then_event n e matching (Err fault) = Err fault
 then_event n e matching (Ok events) = Ok (record { events = events; latest = Some (record { line = n; event = e; matching = matching; answer_line = 0; answer = [] }) })
 
--- line n, with this behind `#? `: a gap that may have come
-abbrev pub maybe_gap_line : ℕ → Latest → Result (Option Event) LineFault → Result After StatedFault
-maybe_gap_line n latest (Ok (Some (Gap bus))) = then_event n (Gap bus) MaybeGap (all_stated latest)
-maybe_gap_line n latest _ = Err (Line n)
+-- line n, with this behind `#? `: a gap that may have come, or a slot in which the unit may have been silent
+abbrev pub maybe_line : ℕ → Latest → Result (Option Event) LineFault → Result After StatedFault
+maybe_line n latest (Ok (Some (Gap bus))) = then_event n (Gap bus) Maybe (all_stated latest)
+maybe_line n latest (Ok (Some Slot)) = then_event n Slot Maybe (all_stated latest)
+maybe_line n latest _ = Err (Line n)
 
--- line n, which of a recording says that a gap may have come if it has a rest behind `#? `
-abbrev pub by_maybe_gap : Bool → ℕ → Latest → List ℕ → Option (List ℕ) → Result After StatedFault
-by_maybe_gap true n latest line (Some rest) = maybe_gap_line n latest (meaning rest)
-by_maybe_gap true n latest line None = by_early_end n latest line (after (codes "#! row ") line)
-by_maybe_gap false n latest line rest = by_early_end n latest line (after (codes "#! row ") line)
+-- line n, which of a recording says what may have come if it has a rest behind `#? `
+abbrev pub by_maybe : Bool → ℕ → Latest → List ℕ → Option (List ℕ) → Result After StatedFault
+by_maybe true n latest line (Some rest) = maybe_line n latest (meaning rest)
+by_maybe true n latest line None = by_early_end n latest line (after (codes "#! row ") line)
+by_maybe false n latest line rest = by_early_end n latest line (after (codes "#! row ") line)
 
--- a line, of a recording or not, that states no answer: an event, perhaps a gap that may have come, nothing, or none of a script
+-- a line, of a recording or not, that states no answer: an event, perhaps one that may have come, nothing, or none of a script
 abbrev pub unstated_line : Bool → ℕ → Latest → List ℕ → Result (Option Event) LineFault → Result After StatedFault
 unstated_line is_recording n latest line (Err fault) = Err (Line n)
-unstated_line is_recording n latest line (Ok None) = by_maybe_gap is_recording n latest line (after (codes "#? ") line)
+unstated_line is_recording n latest line (Ok None) = by_maybe is_recording n latest line (after (codes "#? ") line)
 unstated_line is_recording n latest line (Ok (Some e)) = then_event n e Exact (all_stated latest)
 
 -- line n, which goes on with an answer if it has a rest behind `#+ `

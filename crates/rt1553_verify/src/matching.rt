@@ -13,8 +13,9 @@ pub enum Matching {
     AnyLine,
     /// It is not compared.
     Unchecked,
-    /// The event is a gap that may have come or not. Only a recording has one, and nothing is stated of it.
-    MaybeGap,
+    /// The event may have come or not: a gap; or it is a slot in which the unit may have been silent, whatever it had to send. Only a recording has
+    /// one, and nothing is stated of it.
+    Maybe,
 }
 
 /// Whether a byte of a mask admits a byte of a line: a dot any digit, and any other itself.
@@ -65,7 +66,7 @@ impl Matching {
             Matching::Exact => came == answer,
             Matching::Masked => fits_mask(answer, came),
             Matching::AnyLine => !came.is_empty(),
-            Matching::Unchecked | Matching::MaybeGap => true,
+            Matching::Unchecked | Matching::Maybe => true,
         }
     }
 }

@@ -4,7 +4,7 @@ ghost use Rattle.line_format.specs.Front.{after};
 ghost use Rattle.script_lines.specs.Line.{meaning};
 ghost use Rattle.script_lines.specs.Text.{lines_of};
 ghost use Rattle.bus_script.specs.Reading.{reading, adds, nothing};
-ghost use Rattle.rt1553_verify.specs.Stated.{shown, states_answer, hands_over, can_answer, can_match, is_maybe, is_unanswered, small_digit, small_digits, says_bytes, states, goes_on, all_stated, if_any, shown_after, stays, or_misplaced, then_event, by_early_end, maybe_gap_line, by_maybe_gap, unstated_line, bounded_line, stated_in, warning_text, stated_warning, script_warning, seen_on_bus};
+ghost use Rattle.rt1553_verify.specs.Stated.{shown, states_answer, hands_over, can_answer, can_match, is_maybe, is_unanswered, small_digit, small_digits, says_bytes, states, goes_on, all_stated, if_any, shown_after, stays, or_misplaced, then_event, by_early_end, maybe_line, by_maybe, unstated_line, bounded_line, stated_in, warning_text, stated_warning, script_warning, seen_on_bus};
 ghost use Rattle.rt1553_verify.specs.declared.stated.StatedFault.TheVariants.{Memory};
 
 use crate::Matching;
@@ -155,7 +155,7 @@ fn push_stated(answer: &mut Vec<u8>, line: &[u8]) -> Result<(), AllocError>
 fn is_unanswered(stated: &Stated) -> bool
     ensures { result ≡ is_unanswered (shown stated.now) }
 {
-    stated.answer.is_empty() && stated.matching != Matching::MaybeGap
+    stated.answer.is_empty() && stated.matching != Matching::Maybe
 }
 
 /// Keeps what a line states of the answer to the latest event, of which nothing was stated yet.
@@ -270,19 +270,19 @@ fn read_comment(latest: Option<Stated>, number: u64, line: &[u8]) -> Result<Afte
     }
 }
 
-/// Reads what stands behind `#? ` in a recording: a gap that may have come.
-fn read_maybe_gap(
+/// Reads what stands behind `#? ` in a recording: a gap that may have come, or a slot in which the unit may have been silent.
+fn read_maybe(
     alloc: Global,
     latest: Option<Stated>,
     number: u64,
     line: &[u8],
 ) -> Result<AfterLine, StatedFault>
-    ensures said { IfOk result (λ after. maybe_gap_line number (option_map shown latest) (meaning line.now) ≡ Ok (shown_after after)) }
-    ensures refused { IfErr result (λ fault. fault ≢ StatedFault.Memory → maybe_gap_line number (option_map shown latest) (meaning line.now) ≡ Err fault) }
+    ensures said { IfOk result (λ after. maybe_line number (option_map shown latest) (meaning line.now) ≡ Ok (shown_after after)) }
+    ensures refused { IfErr result (λ fault. fault ≢ StatedFault.Memory → maybe_line number (option_map shown latest) (meaning line.now) ≡ Err fault) }
 {
     match read_event(line) {
-        Ok(Some(Event::Gap(bus))) => {
-            begin(alloc, latest, number, Event::Gap(bus), Matching::MaybeGap)
+        Ok(Some(event)) if matches!(event, Event::Gap(_) | Event::Slot) => {
+            begin(alloc, latest, number, event, Matching::Maybe)
         }
         _ => Err(StatedFault::Line(number)),
     }
@@ -296,12 +296,12 @@ fn read_silent(
     line: &[u8],
     is_recording: bool,
 ) -> Result<AfterLine, StatedFault>
-    ensures said { IfOk result (λ known. by_maybe_gap is_recording number (option_map shown latest) line.now (after (codes "#? ") line.now) ≡ Ok (shown_after known)) }
-    ensures refused { IfErr result (λ fault. fault ≢ StatedFault.Memory → by_maybe_gap is_recording number (option_map shown latest) line.now (after (codes "#? ") line.now) ≡ Err fault) }
+    ensures said { IfOk result (λ known. by_maybe is_recording number (option_map shown latest) line.now (after (codes "#? ") line.now) ≡ Ok (shown_after known)) }
+    ensures refused { IfErr result (λ fault. fault ≢ StatedFault.Memory → by_maybe is_recording number (option_map shown latest) line.now (after (codes "#? ") line.now) ≡ Err fault) }
 {
     if is_recording {
         match after(line, b"#? ") {
-            Some(rest) => read_maybe_gap(alloc, latest, number, rest),
+            Some(rest) => read_maybe(alloc, latest, number, rest),
             None => read_comment(latest, number, line),
         }
     } else {

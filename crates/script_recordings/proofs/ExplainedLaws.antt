@@ -17,18 +17,17 @@ use Rattle.recorded_terminal.specs.declared.watch.Marked.{Marked}
 use Rattle.recorded_terminal.specs.declared.watch.Unexplained.{Unexplained}
 use Rattle.recorded_terminal.specs.SentWords.{word_shown}
 use Rattle.recorded_terminal.specs.Marks.{masked, masked_in, maybe, maybe_of, maybe_in, seen_in, IsSeen}
-use Rattle.recorded_terminal.specs.Watched.{IsUnexplainedBy, IsDecidedAt}
-use Rattle.rt1553_verify.specs.declared.stated.ScriptWarning.{ScriptWarning}
+use Rattle.recorded_terminal.specs.Watched.{IsUnexplainedBy, IsUnexplainedAt, IsDecidedAt}
 use Rattle.rt1553_verify.specs.Stated.{StatedEvent}
 use Rattle.rt1553_verify.specs.Verify.{ToldAnswer, told_answer}
 use Rattle.script_recordings.specs.declared.explaining.UnexplainedLine.{UnexplainedLine}
-use Rattle.script_recordings.specs.Seen.{IsToldAs, StatesRecording, recorded_warning}
-use Rattle.script_recordings.specs.Explained.{told_at, with_other, IsFirstUnexplainedBy, IsFirstUnexplained, PlaysCertain, IsWitness}
-use Rattle.script_recordings.specs.inner.Reads.{Left, NextSeen, TellsUnexplained}
+use Rattle.script_recordings.specs.Seen.{IsToldAs, StatesRecording}
+use Rattle.script_recordings.specs.Explained.{told_at, with_other, told_first, IsFirstUnexplainedBy, IsJudgedFirst, PlaysCertain, IsWitness}
+use Rattle.script_recordings.specs.inner.Reads.{TellsUnexplained}
 use Rattle.script_recordings.specs.inner.Plays.{PlaysSeen}
 use Rattle.script_recordings.specs.inner.Settled.{IsSettled}
 use Rattle.script_recordings.proofs.SettleLaws.{left_open, all_seen}
-use Rattle.script_recordings.proofs.ReadLaws.{AreMarkedAs, are_told, Split, split, ReadSoFar, read_all}
+use Rattle.script_recordings.proofs.ReadLaws.{AreMarkedAs, are_told, Split, split}
 
 pub sightings_alike : (P Q : Description) → AnswersAlike P Q → (h es : List Event) → sightings_from P h es ≡ sightings_from Q h es
 sightings_alike P Q alike h [] = refl
@@ -102,33 +101,28 @@ told_none None (Some line) tells e = absurd tells
 told_none (Some it) None tells e = absurd tells
 told_none (Some it) (Some line) tells e = absurd (cc)
 
+pub first_none : (first : Option UnexplainedLine) → told_first first ≡ None → first ≡ None
+first_none None e = refl
+first_none (Some line) e = absurd (cc)
+
 -- ---- what comes of a recording
 
--- of one that was read to its end
-pub explained_all : (input : Option (List ℕ)) (left new : Left) (ms : List Marked) (first : Option Unexplained) (told : Option UnexplainedLine) (warning : Option ScriptWarning) (P Q : Description) → AnswersAlike Q P
-    → ReadSoFar input left ms → NextSeen left new (Ok None) → TellsUnexplained first told → IsDecidedAt Q [] ms first → warning ≡ recorded_warning (maybe_in ms)
-    → IfSome input (λ script. (recording : List MaybeSighting) × StatesRecording script recording × ((told ≡ None) ↔ ExplainsReading (IsExplained P) recording) × (warning ≡ recorded_warning recording))
-explained_all None left new ms first told warning P Q alike read end tells decided warned = tt
-explained_all (Some script) left new ms first told warning P Q alike read end tells decided warned =
-    let a = read_all script left new ms read end in (
-      maybe_in ms,
-      (a.0, a.1, are_told a.0 ms a.2),
-      (
-        λ e. reading_alike (explained_alike Q P alike) (maybe_in ms) (decided.explained.0 (none_told first told tells e)),
-        λ x. told_none first told tells (decided.explained.1 (reading_alike (explained_alike P Q (λ h e. sym (alike h e))) (maybe_in ms) x)),
-      ),
-      warned,
-    )
-
-pub first_all : (input : Option (List ℕ)) (left new : Left) (ms : List Marked) (first : Option Unexplained) (told : Option UnexplainedLine) (P Q : Description) → AnswersAlike Q P
-    → ReadSoFar input left ms → NextSeen left new (Ok None) → TellsUnexplained first told → IsDecidedAt Q [] ms first
-    → IfSome told (λ line. IfSome input (λ script. IsFirstUnexplained P script (told_answer line.answer)))
-first_all input left new ms first None P Q alike read end tells found = tt
-first_all input left new ms None (Some line) P Q alike read end tells found = absurd tells
-first_all None left new ms (Some it) (Some line) P Q alike read end tells found = tt
-first_all (Some script) left new ms (Some it) (Some line) P Q alike read end tells found =
-    let a = read_all script left new ms read end in
-    (a.0, a.1, first_told (explained_alike Q P alike) (explained_alike P Q (λ h e. sym (alike h e))) a.0 ms it (told_answer line.answer) a.2 tells found.unexplained)
+-- of a part, from power-up
+pub judged_first : (events : List StatedEvent) (ms : List Marked) (first : Option Unexplained) (told : Option UnexplainedLine) (P Q : Description) → AnswersAlike Q P → AreMarkedAs events ms
+    → TellsUnexplained first told → IsDecidedAt Q [] ms first → IsJudgedFirst P events (told_first told) (maybe_in ms)
+judged_first events ms first told P Q alike are tells decided = record {
+  are_told = are_told events ms are;
+  explained = (
+    λ e. reading_alike (explained_alike Q P alike) (maybe_in ms) (decided.explained.0 (none_told first told tells (first_none told e))),
+    λ x. ap told_first (told_none first told tells (decided.explained.1 (reading_alike (explained_alike P Q (λ h e. sym (alike h e))) (maybe_in ms) x))),
+  );
+  first = by first told tells decided.unexplained;
+}
+  where
+    by : (f : Option Unexplained) (t : Option UnexplainedLine) → TellsUnexplained f t → IfSome f (IsUnexplainedAt Q [] ms) → IfSome (told_first t) (IsFirstUnexplainedBy (IsExplained P) events)
+    by f None is found = tt
+    by None (Some line) is found = absurd is
+    by (Some it) (Some line) is found = first_told (explained_alike Q P alike) (explained_alike P Q (λ h e. sym (alike h e))) events ms it (told_answer line.answer) are is found
 
 -- ---- a witness
 

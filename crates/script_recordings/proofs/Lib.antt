@@ -4,3 +4,4 @@ pub mod ExplainedLaws
 pub mod WordLaws
 pub mod SinceLaws
 pub mod TallyLaws
+pub mod PartLaws

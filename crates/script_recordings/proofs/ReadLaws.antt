@@ -1,21 +1,30 @@
 -- Laws of a recording that is read, sighting by sighting.
-use Rattle.std.proofs.Common.{◌≡◌, ◌∙◌, ℕ, Option, Some, None, IfSome, Result, Ok, Err, List, [], ◌∷◌, ◌++◌, ⊎_elim, refl, sym, ap, subst, append-nil}
-use Rattle.terminal_recordings.specs.MaybeGaps.{MaybeSighting}
+use Rattle.std.proofs.Common.{◌≡◌, ◌∙◌, ◌⊎◌, ◌&&◌, ℕ, Bool, true, false, not, cond, Option, Some, None, IfSome, is_some, Result, Ok, Err, List, [], ◌∷◌, ◌++◌, inl, inr, ⊎_elim, refl, sym, ap, subst, append-nil, append_assoc}
+use Rattle.std.specs.List.{All}
+use Rattle.std.proofs.lemmas.List.Elements.{All-nil, All-cons}
+use Rattle.terminal_rules.specs.declared.event.Event.{Event}
+use Rattle.terminal_rules.specs.declared.event.Event.TheVariants as event
+use Rattle.terminal_rules.specs.Out.{Sending}
+use Rattle.terminal_recordings.specs.Masks.{MaskedSighting}
+use Rattle.terminal_recordings.specs.MaybeGaps.{MaybeSighting, Seen, MaybeGap}
 use Rattle.recorded_terminal.specs.declared.watch.Marked.{Marked}
-use Rattle.recorded_terminal.specs.Marks.{maybe_in, HasManyWays}
+use Rattle.recorded_terminal.specs.Marks.{maybe, maybe_in, HasManyWays}
 use Rattle.recorded_terminal.specs.declared.watch.WatchFault.{WatchFault}
 use Rattle.recorded_terminal.specs.declared.watch.WatchFault.TheVariants as watch
+use Rattle.rt1553_verify.specs.declared.matching.Matching.{Matching}
 use Rattle.rt1553_verify.specs.declared.stated.Stated.{Stated}
 use Rattle.rt1553_verify.specs.declared.stated.StatedFault.{StatedFault}
 use Rattle.rt1553_verify.specs.declared.stated.StatedFault.TheVariants.{Memory, Read}
-use Rattle.rt1553_verify.specs.Stated.{StatedEvent, shown, then_events, stated_through}
+use Rattle.rt1553_verify.specs.Stated.{StatedEvent, shown, is_maybe, then_events, stated_through}
 use Rattle.rt1553_verify.specs.Reader.{NextIs}
 use Rattle.rt1553_verify.proofs.StatedLaws.{then-twice}
 use Rattle.script_recordings.specs.declared.reading.RecordingFault.{RecordingFault}
 use Rattle.script_recordings.specs.declared.reading.RecordingFault.TheVariants.{Unseen, Masked, NoWord, TooManyWays, Script}
-use Rattle.script_recordings.specs.Seen.{AreToldAs, IsUnseenAs, StatesRecording, StatesNoRecording}
+use Rattle.terminal_rules.specs.Reply.{is_slot}
+use Rattle.script_recordings.specs.Parts.{is_silence, heard}
+use Rattle.script_recordings.specs.Seen.{IsSeenAs, IsToldAs, StatesSent, AreToldAs, IsUnseenAs, AreRecording, StatesRecording, AreNoRecording, StatesNoRecording, AreNoted}
 use Rattle.script_recordings.specs.Messages.{InMessage, AreInMessages}
-use Rattle.script_recordings.specs.inner.Reads.{Left, IsMarkedAs, SaysNothing, RefusesRest, NextSeen, watch_fault_of}
+use Rattle.script_recordings.specs.inner.Reads.{Left, IsMarkedAs, SaysNothing, RefusesRest, ReadsPart, EndsPart, NextSeen, watch_fault_of}
 
 abbrev Said : Type 0
 Said = Result (List StatedEvent) StatedFault
@@ -57,24 +66,66 @@ split (s ∷ ss) (b ∷ before) m later are =
     let c = split ss before m later are.1 in
     record { front = s ∷ c.front; stated = c.stated; rest = c.rest; all = ap (λ l. s ∷ l) c.all; are = (are.0, c.are); is = c.is; are_rest = c.are_rest }
 
--- ---- what was read so far
+-- ---- what is no slot in which the unit may have been silent
 
-abbrev pub ReadSoFar : Option (List ℕ) → Left → List Marked → Type 0
-ReadSoFar None left ms = Unit {0}
-ReadSoFar (Some script) left ms =
-    (front : List StatedEvent) × (later : Said) × (left ≡ Some later) × (stated_through script ≡ then_events front later) × AreMarkedAs front ms
+-- a sighting ends none
+by_slot : (m : Matching) (s : StatedEvent) (any : Bool) (sent : Option Sending) → s.matching ≡ m → StatesSent s any sent → is_maybe m ≡ false
+by_slot m s false sent is said = ap is_maybe (sym is ∙ said.0)
+by_slot m s true sent is said = ap is_maybe (sym is ∙ said.0)
+
+by_event : (line : ℕ) (e : Event) (m : Matching) (at : ℕ) (answer : List ℕ) (x : MaskedSighting) → IsSeenAs (record { line = line; event = e; matching = m; answer_line = at; answer = answer }) x
+    → is_silence (record { line = line; event = e; matching = m; answer_line = at; answer = answer }) ≡ false
+by_event line (event.Word b w) m at answer x is = refl
+by_event line (event.Noise b) m at answer x is = refl
+by_event line (event.Gap b) m at answer x is = refl
+by_event line event.Slot m at answer x is = by_slot m (record { line = line; event = event.Slot; matching = m; answer_line = at; answer = answer }) x.any_word x.sighting.sent refl is.sent
+by_event line (event.Write p v) m at answer x is = refl
+by_event line (event.Vector v) m at answer x is = refl
+by_event line (event.Bit v) m at answer x is = refl
+by_event line (event.Flag f v) m at answer x is = refl
+
+pub goes_on : (s : StatedEvent) (x : MaybeSighting) → IsToldAs s x → is_silence s ≡ false
+goes_on s (MaybeGap bus) is = ap (λ e. is_slot e && is_maybe s.matching) is.0
+goes_on s (Seen x) is = by_event s.line s.event s.matching s.answer_line s.answer x is
+
+pub none_end : (ss : List StatedEvent) (xs : List MaybeSighting) → AreToldAs ss xs → All (λ s. is_silence s ≡ false) ss
+none_end [] xs are = All-nil (λ s. is_silence s ≡ false)
+none_end (s ∷ ss) [] are = absurd are
+none_end (s ∷ ss) (x ∷ xs) are = All-cons (λ s. is_silence s ≡ false) s ss (goes_on s x are.0) (none_end ss xs are.1)
+
+-- so all of a part is heard, and noted
+pub all_heard : (ss : List StatedEvent) (xs : List MaybeSighting) → AreToldAs ss xs → heard ss ≡ ss
+all_heard [] xs are = refl
+all_heard (s ∷ ss) [] are = absurd are
+all_heard (s ∷ ss) (x ∷ xs) are = (λ j. cond (not (goes_on s x are.0 j)) (s ∷ all_heard ss xs are.1 j) (all_heard ss xs are.1 j))
+
+pub are_noted : (ss : List StatedEvent) (xs : List MaybeSighting) → AreToldAs ss xs → AreNoted ss
+are_noted [] xs are = tt
+are_noted (s ∷ ss) [] are = absurd are
+are_noted (s ∷ ss) (x ∷ xs) are = (inr (x, are.0), are_noted ss xs are.1)
+
+pub noted_more : (ss ts : List StatedEvent) → AreNoted ss → AreNoted ts → AreNoted (ss ++ ts)
+noted_more [] ts are more = more
+noted_more (s ∷ ss) ts are more = (are.0, noted_more ss ts are.1 more)
+
+-- ---- what was read so far of a part, of all that was left
+
+abbrev pub PartSoFar : Left → Left → List Marked → Type 0
+PartSoFar None left ms = Unit {0}
+PartSoFar (Some said) left ms =
+    (front : List StatedEvent) × (later : Said) × (left ≡ Some later) × (said ≡ then_events front later) × AreMarkedAs front ms
 
 then_none : (said : Said) → said ≡ then_events [] said
 then_none (Ok ss) = refl
 then_none (Err fault) = refl
 
-pub read_none : (input : Option (List ℕ)) (left : Left) → IfSome input (λ script. left ≡ Some (stated_through script)) → ReadSoFar input left []
-read_none None left is = tt
-read_none (Some script) left is = ([], stated_through script, is, then_none (stated_through script), tt)
+pub part_none : (left : Left) → PartSoFar left left []
+part_none None = tt
+part_none (Some said) = ([], said, refl, then_none said, tt)
 
-pub read_more : (input : Option (List ℕ)) (left new : Left) (ms : List Marked) (m : Marked) → ReadSoFar input left ms → NextSeen left new (Ok (Some m)) → ReadSoFar input new (ms ++ m ∷ [])
-read_more None left new ms m read next = tt
-read_more (Some script) left new ms m (front, later, is, all, are) next =
+pub part_more : (all left new : Left) (ms : List Marked) (m : Marked) → PartSoFar all left ms → NextSeen left new (Ok (Some m)) → PartSoFar all new (ms ++ m ∷ [])
+part_more None left new ms m read next = tt
+part_more (Some said) left new ms m (front, later, is, all, are) next =
     let n : NextSeen (Some later) new (Ok (Some m)) = subst (λ (l : Left). NextSeen l new (Ok (Some m))) is next in (
       front ++ n.0 ∷ [],
       n.1,
@@ -83,30 +134,88 @@ read_more (Some script) left new ms m (front, later, is, all, are) next =
       marked_more front n.0 ms m are n.4,
     )
 
-pub read_all : (script : List ℕ) (left new : Left) (ms : List Marked) → ReadSoFar (Some script) left ms → NextSeen left new (Ok None)
-    → (ss : List StatedEvent) × (stated_through script ≡ Ok ss) × AreMarkedAs ss ms
-read_all script left new ms (front, later, is, all, are) next =
-    let n : NextSeen (Some later) new (Ok None) = subst (λ (l : Left). NextSeen l new (Ok None)) is next in
+pub part_ended : (said : Said) (left new : Left) (silence : Option ℕ) (ms : List Marked) → PartSoFar (Some said) left ms → EndsPart left new silence
+    → (events : List StatedEvent) × ReadsPart (Some said) new silence events × AreMarkedAs events ms
+part_ended said left new None ms (front, later, is, all, are) end =
+    let n : EndsPart (Some later) new None = subst (λ (l : Left). EndsPart l new None) is end in
     (front, all ∙ ap (then_events front) n ∙ ap Ok (append-nil front), are)
+part_ended said left new (Some line) ms (front, later, is, all, are) end =
+    let n : EndsPart (Some later) new (Some line) = subst (λ (l : Left). EndsPart l new (Some line)) is end in
+    (front, (n.0, n.1, n.2, all ∙ ap (then_events front) n.3 ∙ then-twice front (n.0 ∷ []) n.1, n.4, n.5), are)
 
-pub read_fault : (input : Option (List ℕ)) (left new : Left) (ms : List Marked) (fault : RecordingFault) → ReadSoFar input left ms → NextSeen left new (Err fault)
-    → IfSome input (λ script. StatesNoRecording script fault)
-read_fault None left new ms fault read next = tt
-read_fault (Some script) left new ms fault (front, later, is, all, are) next = case fault (subst (λ (l : Left). NextSeen l new (Err fault)) is next)
+-- ---- what is no recording
+
+unread : (new : Left) (front : List StatedEvent) (said later : Said) (fault : RecordingFault) → AreNoted front → said ≡ then_events front later → NextSeen (Some later) new (Err fault) → AreNoRecording said fault
+unread new front said later (Script other) noted all n = λ memory read. all ∙ ap (then_events front) (n memory read)
+unread new front said later (Unseen line) noted all (s, rest, e, live, bad) = (front, s, rest, all ∙ ap (then_events front) e, noted, live, bad)
+unread new front said later (Masked line) noted all (s, rest, e, live, bad) = (front, s, rest, all ∙ ap (then_events front) e, noted, live, bad)
+unread new front said later (NoWord line) noted all (s, rest, e, live, bad) = (front, s, rest, all ∙ ap (then_events front) e, noted, live, bad)
+unread new front said later TooManyWays noted all (s, rest, e, live, bad) = absurd bad
+
+pub part_fault : (all left new : Left) (ms : List Marked) (fault : RecordingFault) → PartSoFar all left ms → NextSeen left new (Err fault) → IfSome all (λ said. AreNoRecording said fault)
+part_fault None left new ms fault read next = tt
+part_fault (Some said) left new ms fault (front, later, is, all, are) next =
+    unread new front said later fault (are_noted front (maybe_in ms) (are_told front ms are)) all (subst (λ (l : Left). NextSeen l new (Err fault)) is next)
+
+-- ---- what was read so far of the whole, without slots in which the unit may have been silent
+
+heard_step : (front : List StatedEvent) (s : StatedEvent) (b : Bool) → is_silence s ≡ b → heard (front ++ s ∷ []) ≡ heard front ++ cond (not b) (s ∷ []) []
+heard_step [] s b is = ap (λ c. cond (not c) (s ∷ []) []) is
+heard_step (t ∷ front) s b is = by (not (is_silence t)) (heard_step front s b is)
   where
-    Unread : RecordingFault → Type 0
-    Unread f = (s : StatedEvent) × (rest : List StatedEvent) × (later ≡ Ok (s ∷ rest)) × IsUnseenAs s f
+    by : (c : Bool) → heard (front ++ s ∷ []) ≡ heard front ++ cond (not b) (s ∷ []) []
+        → cond c (t ∷ heard (front ++ s ∷ [])) (heard (front ++ s ∷ [])) ≡ cond c (t ∷ heard front) (heard front) ++ cond (not b) (s ∷ []) []
+    by true e = ap (λ l. t ∷ l) e
+    by false e = e
 
-    unseen : (f : RecordingFault) → Unread f → (ss : List StatedEvent) × (stated_through script ≡ Ok ss)
-        × ((fr : List StatedEvent) × (s : StatedEvent) × (rest : List StatedEvent) × (xs : List MaybeSighting) × (ss ≡ fr ++ s ∷ rest) × AreToldAs fr xs × IsUnseenAs s f)
-    unseen f (s, rest, e, bad) = (front ++ s ∷ rest, all ∙ ap (then_events front) e, (front, s, rest, maybe_in ms, refl, are_told front ms are, bad))
+abbrev pub HeardSoFar : Left → Left → List Marked → Type 0
+HeardSoFar None left ms = Unit {0}
+HeardSoFar (Some said) left ms =
+    (front : List StatedEvent) × (later : Said) × (left ≡ Some later) × (said ≡ then_events front later) × AreNoted front × AreMarkedAs (heard front) ms
 
-    case : (f : RecordingFault) → NextSeen (Some later) new (Err f) → StatesNoRecording script f
-    case (Script other) n = λ memory read. all ∙ ap (then_events front) (n memory read)
-    case (Unseen line) n = unseen (Unseen line) n
-    case (Masked line) n = unseen (Masked line) n
-    case (NoWord line) n = unseen (NoWord line) n
-    case TooManyWays (t, ts, e, bad) = absurd bad
+pub heard_none : (left : Left) → HeardSoFar left left []
+heard_none None = tt
+heard_none (Some said) = ([], said, refl, then_none said, tt, tt)
+
+pub heard_more : (all left new : Left) (ms : List Marked) (m : Marked) → HeardSoFar all left ms → NextSeen left new (Ok (Some m)) → HeardSoFar all new (ms ++ m ∷ [])
+heard_more None left new ms m read next = tt
+heard_more (Some said) left new ms m (front, later, is, all, noted, are) next =
+    let n : NextSeen (Some later) new (Ok (Some m)) = subst (λ (l : Left). NextSeen l new (Ok (Some m))) is next in
+    let same : heard (front ++ n.0 ∷ []) ≡ heard front ++ n.0 ∷ [] = heard_step front n.0 false (goes_on n.0 (maybe m) n.4.0) in (
+      front ++ n.0 ∷ [],
+      n.1,
+      n.2,
+      all ∙ ap (then_events front) n.3 ∙ then-twice front (n.0 ∷ []) n.1,
+      noted_more front (n.0 ∷ []) noted (inr (maybe m, n.4.0), tt),
+      subst (λ l. AreMarkedAs l (ms ++ m ∷ [])) (sym same) (marked_more (heard front) n.0 ms m are n.4),
+    )
+
+-- behind such a slot
+pub heard_silence : (all left new : Left) (silence : Option ℕ) (ms : List Marked) → is_some silence ≡ true → HeardSoFar all left ms → EndsPart left new silence → HeardSoFar all new ms
+heard_silence all left new None ms some read end = absurd (cc)
+heard_silence None left new (Some line) ms some read end = tt
+heard_silence (Some said) left new (Some line) ms some (front, later, is, all, noted, are) end =
+    let n : EndsPart (Some later) new (Some line) = subst (λ (l : Left). EndsPart l new (Some line)) is end in
+    let same : heard (front ++ n.0 ∷ []) ≡ heard front = heard_step front n.0 true n.4 ∙ append-nil (heard front) in (
+      front ++ n.0 ∷ [],
+      n.1,
+      n.2,
+      all ∙ ap (then_events front) n.3 ∙ then-twice front (n.0 ∷ []) n.1,
+      noted_more front (n.0 ∷ []) noted (inl n.4, tt),
+      subst (λ l. AreMarkedAs l ms) (sym same) are,
+    )
+
+pub heard_all : (all left new : Left) (silence : Option ℕ) (ms : List Marked) → is_some silence ≡ false → HeardSoFar all left ms → EndsPart left new silence → IfSome all (λ said. AreRecording said (maybe_in ms))
+heard_all all left new (Some line) ms none read end = absurd (cc)
+heard_all None left new None ms none read end = tt
+heard_all (Some said) left new None ms none (front, later, is, all, noted, are) end =
+    let n : EndsPart (Some later) new None = subst (λ (l : Left). EndsPart l new None) is end in
+    (front, all ∙ ap (then_events front) n ∙ ap Ok (append-nil front), are_told (heard front) ms are)
+
+pub heard_fault : (all left new : Left) (ms : List Marked) (fault : RecordingFault) → HeardSoFar all left ms → NextSeen left new (Err fault) → IfSome all (λ said. AreNoRecording said fault)
+heard_fault None left new ms fault read next = tt
+heard_fault (Some said) left new ms fault (front, later, is, all, noted, are) next =
+    unread new front said later fault noted all (subst (λ (l : Left). NextSeen l new (Err fault)) is next)
 
 -- ---- to which messages they belong
 
@@ -148,10 +257,10 @@ rest_more (Some said) left new s (front, later, is, e) next =
 
 -- ---- the sighting that comes next
 
-pub next_unseen : (left mid new : Left) (s : Stated) (fault given : RecordingFault) → NextIs left mid (Ok (Some s)) → IsUnseenAs (shown s) fault → RefusesRest mid fault given
+pub next_unseen : (left mid new : Left) (s : Stated) (fault given : RecordingFault) → NextIs left mid (Ok (Some s)) → is_silence (shown s) ≡ false → IsUnseenAs (shown s) fault → RefusesRest mid fault given
     → NextSeen left new (Err given)
-next_unseen None mid new s fault given next bad refuses = tt
-next_unseen (Some said) mid new s fault given (later, is, e) bad refuses = rest later e (subst (λ (l : Left). RefusesRest l fault given) is refuses)
+next_unseen None mid new s fault given next heard bad refuses = tt
+next_unseen (Some said) mid new s fault given (later, is, e) heard bad refuses = rest later e (subst (λ (l : Left). RefusesRest l fault given) is refuses)
   where
     unread : (g : RecordingFault) → SaysNothing g → NextSeen (Some said) new (Err g)
     unread g is = ⊎_elim
@@ -160,9 +269,9 @@ next_unseen (Some said) mid new s fault given (later, is, e) bad refuses = rest 
 
     event : (ss : List StatedEvent) → said ≡ Ok (shown s ∷ ss) → (f : RecordingFault) → IsUnseenAs (shown s) f → NextSeen (Some said) new (Err f)
     event ss all (Script other) bad = absurd bad
-    event ss all (Unseen line) bad = (shown s, ss, all, bad)
-    event ss all (Masked line) bad = (shown s, ss, all, bad)
-    event ss all (NoWord line) bad = (shown s, ss, all, bad)
+    event ss all (Unseen line) bad = (shown s, ss, all, heard, bad)
+    event ss all (Masked line) bad = (shown s, ss, all, heard, bad)
+    event ss all (NoWord line) bad = (shown s, ss, all, heard, bad)
     event ss all TooManyWays bad = absurd bad
 
     rest : (l : Said) → said ≡ then_events (shown s ∷ []) l → RefusesRest (Some l) fault given → NextSeen (Some said) new (Err given)
@@ -175,26 +284,28 @@ next_unseen (Some said) mid new s fault given (later, is, e) bad refuses = rest 
 
 -- ---- the whole recording
 
-pub recording_all : (input : Option (List ℕ)) (left new : Left) (ms : List Marked) → ReadSoFar input left ms → NextSeen left new (Ok None)
-    → IfSome input (λ script. StatesRecording script (maybe_in ms))
-recording_all None left new ms read end = tt
-recording_all (Some script) left new ms read end = let a = read_all script left new ms read end in (a.0, a.1, are_told a.0 ms a.2)
+-- what holds of all that is left to a new reader holds of the script
+pub of_script : (input : Option (List ℕ)) (left : Left) (F : Said → Type 0) → IfSome input (λ script. left ≡ Some (stated_through script)) → IfSome left F → IfSome input (λ script. F (stated_through script))
+of_script None left F is f = tt
+of_script (Some script) left F is f = subst (λ (l : Left). IfSome l F) is f
 
 -- ---- too many ways
 
 -- a fault of a watch
-pub watch_refused : (input : Option (List ℕ)) (left : Left) (ms : List Marked) (fault : WatchFault) → ReadSoFar input left ms → (fault ≡ watch.TooManyWays → HasManyWays (maybe_in ms))
-    → IfSome input (λ script. StatesNoRecording script (watch_fault_of fault))
+pub watch_refused : (all left : Left) (ms : List Marked) (fault : WatchFault) → PartSoFar all left ms → (fault ≡ watch.TooManyWays → HasManyWays (maybe_in ms))
+    → IfSome all (λ said. AreNoRecording said (watch_fault_of fault))
 watch_refused None left ms fault read has = tt
-watch_refused (Some script) left ms watch.Memory read has = λ memory read. absurd (memory refl)
-watch_refused (Some script) left ms watch.TooManyWays (front, later, is, all, are) has = (maybe_in ms, (front, later, all, are_told front ms are), has refl)
+watch_refused (Some said) left ms watch.Memory read has = λ memory read. absurd (memory refl)
+watch_refused (Some said) left ms watch.TooManyWays (front, later, is, all, are) has =
+    let told = are_told front ms are in
+    ([], front, later, maybe_in ms, all, subst (λ l. AreToldAs l (maybe_in ms)) (sym (all_heard front (maybe_in ms) told)) told, has refl)
 
 -- so is that of one by which a reading is sought
 pub settle_refused : (input : Option (List ℕ)) (ms : List Marked) (fault : WatchFault) → IfSome input (λ script. StatesRecording script (maybe_in ms)) → (fault ≡ watch.TooManyWays → HasManyWays (maybe_in ms))
     → IfSome input (λ script. StatesNoRecording script (watch_fault_of fault))
 settle_refused None ms fault states has = tt
 settle_refused (Some script) ms watch.Memory states has = λ memory read. absurd (memory refl)
-settle_refused (Some script) ms watch.TooManyWays (ss, said, are) has = (maybe_in ms, (ss, Ok [], said ∙ ap Ok (sym (append-nil ss)), are), has refl)
+settle_refused (Some script) ms watch.TooManyWays (ss, said, are) has = ([], ss, Ok [], maybe_in ms, said ∙ ap Ok (sym (append-nil ss)), are, has refl)
 
 pub memory_refused : (input : Option (List ℕ)) → IfSome input (λ script. StatesNoRecording script (Script Memory))
 memory_refused None = tt

@@ -3,11 +3,14 @@ use Rattle.std.proofs.Common.{◌≡◌, ◌∙◌, ℕ, Option, Some, None, IfS
 use Rattle.bus_word.specs.Mode as mode
 use Rattle.bus_legal.specs.Description.{Description}
 use Rattle.bus_legal.specs.Parts.{Parts, description_in, IsNormal}
+use Rattle.bus_legal.specs.Reach.{reach}
 use Rattle.bus_legal.proofs.NormalLaws.{required-legal}
+use Rattle.terminal_rules.specs.Out.{out}
+use Rattle.terminal_rules.proofs.Reach.Same.{out-reach}
 use Rattle.terminal_rules.specs.Past.{history_after}
 use Rattle.terminal_recordings.specs.Recordings.{Sighting, IsExplainedAfter}
 use Rattle.terminal_recordings.specs.Later.{IsExplainedLater, IsExplainedAnyTime, no_gaps, shut_history}
-use Rattle.terminal_recordings.specs.MaybeGaps.{IsReadingOf, ExplainsReading, IsExplainedSomehow, certainly, fresh_part}
+use Rattle.terminal_recordings.specs.MaybeGaps.{MaybeSighting, IsReadingOf, ExplainsReading, IsExplainedSomehow, certainly, fresh_part}
 use Rattle.terminal_recordings.proofs.MaybeLaw.{maybe_law}
 use Rattle.rt1553.proofs.EngineLaws.{AnswersAlike}
 use Rattle.recorded_terminal.specs.declared.watch.Marked.{Marked}
@@ -25,31 +28,29 @@ use Rattle.recorded_terminal.specs.Behaviour.{IsBehaviourAfter}
 use Rattle.terminal_rules.specs.declared.event.Event.{Event}
 use Rattle.terminal_recordings.specs.Completion.{shown_from}
 use Rattle.rt1553_verify.specs.declared.stated.ScriptWarning.{ScriptWarning}
-use Rattle.rt1553_verify.specs.Stated.{StatedEvent}
-use Rattle.rt1553_verify.specs.Verify.{told_answer}
+use Rattle.rt1553_verify.specs.Stated.{StatedEvent, stated_through}
+use Rattle.rt1553_verify.specs.Verify.{ToldAnswer, told_answer}
 use Rattle.script_recordings.specs.declared.explaining.UnexplainedLine.{UnexplainedLine}
 use Rattle.script_lines.specs.EventLine.{script_text}
-use Rattle.script_recordings.specs.Seen.{AreToldAs, StatesRecording, recorded_warning}
-use Rattle.script_recordings.specs.Explained.{told_first, IsFirstUnexplainedBy, HasNoPart, IsJudgedSince, NothingExplains, IsLaterWitness}
-use Rattle.script_recordings.specs.inner.Reads.{Left, NextSeen, TellsUnexplained, TellsJudged}
+use Rattle.script_recordings.specs.Parts.{split_parts}
+use Rattle.script_recordings.specs.Seen.{AreToldAs, StatesRecording}
+use Rattle.script_recordings.specs.Explained.{first_some, told_first, IsFirstUnexplainedBy, IsJudgedAfter, IsJudgedLater, AreJudgedLater, IsJudgedSince, HasNoPart, NothingExplains, IsLaterWitness}
+use Rattle.script_recordings.specs.inner.Reads.{TellsUnexplained, TellsJudged}
+use Rattle.script_recordings.specs.inner.PartsTold.{judged_of}
 use Rattle.script_recordings.specs.inner.Settled.{IsSettled}
 use Rattle.script_recordings.proofs.SettleLaws.{all_seen}
-use Rattle.script_recordings.proofs.ReadLaws.{AreMarkedAs, are_told, Split, split, ReadSoFar, read_all}
-use Rattle.script_recordings.proofs.ExplainedLaws.{sightings_alike, reading_alike, first_told, none_told, told_none}
+use Rattle.script_recordings.proofs.ReadLaws.{AreMarkedAs, are_told, Split, split}
+use Rattle.script_recordings.proofs.ExplainedLaws.{sightings_alike, reading_alike, first_told, first_none, none_told, told_none}
 
 -- the transmitters of what can be reached of a profile can be shut down
 pub can_begin : (v : Parts) → IsNormal v → CanBegin (description_in v)
 can_begin v normal = record { address = normal.address; shutdown = required-legal v normal mode.shutdown refl }
 
-first_none : (first : Option UnexplainedLine) → told_first first ≡ None → first ≡ None
-first_none None e = refl
-first_none (Some line) e = absurd (cc)
-
-judged_first : (D : Description) (events : List StatedEvent) (part : List Marked) (first : Option Unexplained) (told : Option UnexplainedLine) → AreMarkedAs events part → TellsUnexplained first told →
+told_later : (D : Description) (events : List StatedEvent) (part : List Marked) (first : Option Unexplained) (told : Option UnexplainedLine) → AreMarkedAs events part → TellsUnexplained first told →
     IfSome first (IsUnexplainedBy (IsExplainedLater D) part) → IfSome (told_first told) (IsFirstUnexplainedBy (IsExplainedLater D) events)
-judged_first D events part first None are tells found = tt
-judged_first D events part None (Some line) are tells found = absurd tells
-judged_first D events part (Some it) (Some line) are tells found = first_told {E = IsExplainedLater D} {F = IsExplainedLater D} (λ xs x. x) (λ xs x. x) events part it (told_answer line.answer) are tells found
+told_later D events part first None are tells found = tt
+told_later D events part None (Some line) are tells found = absurd tells
+told_later D events part (Some it) (Some line) are tells found = first_told {E = IsExplainedLater D} {F = IsExplainedLater D} (λ xs x. x) (λ xs x. x) events part it (told_answer line.answer) are tells found
 
 drop_front : (front : List Marked) (m : Marked) (part : List Marked) → drop (suc (length front)) (front ++ m ∷ part) ≡ part
 drop_front [] m part = refl
@@ -59,62 +60,76 @@ drop_front (x ∷ front) m part = drop_front front m part
 part_is : (D : Description) (ms : List Marked) (it : FreshPart) (i : IsJudged D ms it) → drop it.before ms ≡ i.part
 part_is D ms it i = (λ j. drop (i.before j) (i.all j)) ∙ drop_front i.front i.pause i.part
 
-pub judged_all : (input : Option (List ℕ)) (left new : Left) (ms : List Marked) (judged : Option FreshPart) (after : Option ℕ) (first : Option UnexplainedLine) (warning : Option ScriptWarning) (D : Description) →
-    ReadSoFar input left ms → NextSeen left new (Ok None) → TellsJudged judged after first → IsJudgedBy D ms judged → IfSome judged (λ part. warning ≡ recorded_warning (maybe_in (drop part.before ms))) →
-    IfSome input (λ script. IsJudgedSince D script after (told_first first) warning)
-judged_all None left new ms judged after first warning D read end tells found warned = tt
-judged_all (Some script) left new ms None None None warning D read end tells found warned =
-    let a = read_all script left new ms read end in
-    (refl, (maybe_in ms, (a.0, a.1, are_told a.0 ms a.2), found))
-judged_all (Some script) left new ms None None (Some line) warning D read end tells found warned = absurd tells
-judged_all (Some script) left new ms None (Some after) first warning D read end tells found warned = absurd tells
-judged_all (Some script) left new ms (Some it) None first warning D read end tells found warned = absurd tells
-judged_all (Some script) left new ms (Some it) (Some after) first warning D read end tells i warned =
-    let a = read_all script left new ms read end in
-    let c : Split a.0 i.front i.pause i.part = split a.0 i.front i.pause i.part (subst (λ (l : List Marked). AreMarkedAs a.0 l) i.all a.2) in
-    record {
+-- what is told of a part of a recording that began at any time
+pub judged_later : (D : Description) (events : List StatedEvent) (ms : List Marked) (judged : Option FreshPart) (after : Option ℕ) (first : Option UnexplainedLine) → AreMarkedAs events ms →
+    TellsJudged judged after first → IsJudgedBy D ms judged → IsJudgedLater D events after (told_first first) (judged_of judged ms)
+judged_later D events ms None None None are tells found = (refl, refl, (maybe_in ms, are_told events ms are, found))
+judged_later D events ms None None (Some line) are tells found = absurd tells
+judged_later D events ms None (Some after) first are tells found = absurd tells
+judged_later D events ms (Some it) None first are tells found = absurd tells
+judged_later D events ms (Some it) (Some after) first are tells i =
+    let c : Split events i.front i.pause i.part = split events i.front i.pause i.part (subst (λ (l : List Marked). AreMarkedAs events l) i.all are) in
+    let part : maybe_in i.part ≡ maybe_in (drop it.before ms) = ap maybe_in (sym (part_is D ms it i)) in
+    subst (IsJudgedAfter D events after (told_first first)) part
+    (record {
       front = c.front;
       pause = c.stated;
-      events = c.rest;
-      all = a.1 ∙ ap Ok c.all;
+      fresh = c.rest;
+      all = c.all;
       line = tells.0 ∙ i.line ∙ c.is.1;
       recording = maybe_in ms;
-      are_told = subst (λ (l : List StatedEvent). AreToldAs l (maybe_in ms)) c.all (are_told a.0 ms a.2);
-      part = maybe_in i.part;
-      part_told = are_told c.rest i.part c.are_rest;
-      is_part = i.is_part;
+      are_told = are_told events ms are;
+      judged_told = are_told c.rest i.part c.are_rest;
+      is_fresh = i.is_part;
       explained = (
         λ e. i.explained.0 (none_told it.first first tells.1 (first_none first e)),
         λ x. ap told_first (told_none it.first first tells.1 (i.explained.1 x)),
       );
-      first = judged_first D c.rest i.part it.first first c.are_rest tells.1 i.first;
-      warned = warned ∙ ap (λ l. recorded_warning (maybe_in l)) (part_is D ms it i);
-    }
+      first = told_later D c.rest i.part it.first first c.are_rest tells.1 i.first;
+    })
 
 any_time_alike : (P Q : Description) → AnswersAlike P Q → (recording : List Sighting) → IsExplainedAnyTime P recording → IsExplainedAnyTime Q recording
 any_time_alike P Q alike recording (earlier, a, (es, proper, seen)) = (earlier, a, (es, proper, sym (sightings_alike P Q alike (history_after earlier []) es) ∙ seen))
 
--- where something is told, nothing explains the whole, whenever it began
-never : (D : Description) (ms : List Marked) (it : FreshPart) (x : Unexplained) → it.first ≡ Some x → IsJudged D ms it → ExplainsReading (IsExplainedAnyTime D) (maybe_in ms) → ⊥
-never D ms it x is i any =
-    let found : Some x ≡ None = sym is ∙ i.explained.1 ((maybe_law.afresh D (maybe_in ms) (maybe_in i.part) i.is_part).1 any) in
-    absurd (cc)
+-- a part of which something is told is never explained, whenever it began
+part_never : (D P : Description) → AnswersAlike D P → (events : List StatedEvent) (after : Option ℕ) (told : ToldAnswer) (judged : List MaybeSighting) → IsJudgedLater D events after (Some told) judged
+    → (recording : List MaybeSighting) × AreToldAs events recording × (ExplainsReading (IsExplainedAnyTime P) recording → ⊥)
+part_never D P alike events None told judged (is, none, begins) = absurd (cc)
+part_never D P alike events (Some after) told judged i = (
+  i.recording,
+  i.are_told,
+  λ any.
+      let found : Some told ≡ None = i.explained.1 ((maybe_law.afresh D i.recording judged i.is_fresh).1 (reading_alike (any_time_alike P D (λ h e. sym (alike h e))) i.recording any)) in
+      absurd (cc),
+)
 
-pub never_all : (input : Option (List ℕ)) (left new : Left) (ms : List Marked) (judged : Option FreshPart) (after : Option ℕ) (first : Option UnexplainedLine) (D P : Description) → AnswersAlike D P →
-    ReadSoFar input left ms → NextSeen left new (Ok None) → TellsJudged judged after first → IsJudgedBy D ms judged →
-    IfSome first (λ line. IfSome input (λ script. NothingExplains P script))
-never_all input left new ms judged after None D P alike read end tells found = tt
-never_all None left new ms judged after (Some line) D P alike read end tells found = tt
-never_all (Some script) left new ms None None (Some line) D P alike read end tells found = absurd tells
-never_all (Some script) left new ms None (Some after) (Some line) D P alike read end tells found = absurd tells
-never_all (Some script) left new ms (Some it) None (Some line) D P alike read end tells found = absurd tells
-never_all (Some script) left new ms (Some it) (Some after) (Some line) D P alike read end tells i =
-    let a = read_all script left new ms read end in
-    (maybe_in ms, (a.0, a.1, are_told a.0 ms a.2), λ any. by it.first refl tells.1 (reading_alike (any_time_alike P D (λ h e. sym (alike h e))) (maybe_in ms) any))
+-- so one is of which something is told of parts
+pub parts_never : (D P : Description) → AnswersAlike D P → (script : List ℕ) (events : List StatedEvent) → stated_through script ≡ Ok events → (parts : List (List StatedEvent)) (after : Option ℕ) (told : ToldAnswer)
+    (judged : List MaybeSighting) → AreJudgedLater D parts after (Some told) judged → (front : List (List StatedEvent)) → split_parts events ≡ front ++ parts → NothingExplains P script
+parts_never D P alike script events says [] after told judged (at, is, none) front whole = absurd (cc)
+parts_never D P alike script events says (part ∷ parts) after told judged (line, lines, one, others, seen, more, i, are, at, is, all) front whole =
+    by one i is
+    (λ e. parts_never D P alike script events says parts lines told more (subst (λ q. AreJudgedLater D parts lines q more) (sym e) are) (front ++ part ∷ [])
+    (whole ∙ sym (append_assoc front (part ∷ []) parts)))
   where
-    by : (o : Option Unexplained) → it.first ≡ o → TellsUnexplained o (Some line) → ExplainsReading (IsExplainedAnyTime D) (maybe_in ms) → ⊥
-    by None is tells any = tells
-    by (Some x) is tells any = never D ms it x is i any
+    by : (o : Option ToldAnswer) → IsJudgedLater D part line o seen → Some told ≡ first_some o others → (Some told ≡ others → NothingExplains P script) → NothingExplains P script
+    by (Some t) i e rest =
+        let n = part_never D P alike part line t seen i in
+        record { before = front; part = part; behind = parts; events = events; says = says; split = whole; recording = n.0; are_told = n.1; never = n.2 }
+    by None i e rest = rest e
+
+-- what can be reached of a profile answers alike
+pub normal_alike : (v : Parts) (P : Description) → IsNormal v → description_in v ≡ reach P → AnswersAlike (description_in v) P
+normal_alike v P normal reached h e =
+    let small : P.address ≤ 30 = subst (λ n. n ≤ 30) (ap (λ D. D.address) reached) normal.address in
+    ap (λ D. out D h e) reached ∙ out-reach P h e small
+
+-- where a line is told, nothing explains one of the parts, whenever it began
+pub never_told : (D P : Description) → AnswersAlike D P → (input : Option (List ℕ)) (after : Option ℕ) (first : Option UnexplainedLine) (warning : Option ScriptWarning) (n : ℕ) →
+    IfSome input (λ script. IsJudgedSince D script after (told_first first) warning n) → IfSome first (λ line. IfSome input (λ script. NothingExplains P script))
+never_told D P alike input after None warning n judged = tt
+never_told D P alike None after (Some line) warning n judged = tt
+never_told D P alike (Some script) after (Some line) warning n i = parts_never D P alike script i.events i.says (split_parts i.events) after (told_answer line.answer) i.judged i.are_judged [] refl
 
 pub no_part : (input : Option (List ℕ)) (D : Description) (ms : List Marked) → IfSome input (λ script. StatesRecording script (maybe_in ms)) → IsJudgedBy D ms None → IfSome input (HasNoPart D)
 no_part None D ms states none = tt

@@ -1,5 +1,5 @@
 -- The first line of a script that no behaviour of the subsystem explains.
-use Rattle.std.specs.Prelude.{ℕ, ◌≡◌, ◌↔◌, false, Option, Some, None, IfSome, Ok, List, [], ◌∷◌, ◌++◌}
+use Rattle.std.specs.Prelude.{ℕ, suc, ◌≡◌, ◌↔◌, false, Option, Some, None, IfSome, Ok, List, [], ◌∷◌, ◌++◌, length}
 use Rattle.bus_legal.specs.Description.{Description}
 use Rattle.terminal_rules.specs.declared.event.Event.{Event}
 use Rattle.terminal_rules.specs.Same.{AreProper}
@@ -13,6 +13,7 @@ use Rattle.rt1553_verify.specs.declared.stated.ScriptWarning.{ScriptWarning}
 use Rattle.rt1553_verify.specs.Stated.{StatedEvent, stated_through}
 use Rattle.rt1553_verify.specs.Verify.{ToldAnswer, told_answer}
 use Rattle.script_recordings.specs.declared.explaining.UnexplainedLine.{UnexplainedLine}
+use Rattle.script_recordings.specs.Parts.{split_parts}
 use Rattle.script_recordings.specs.Seen.{stated_word, IsSeenAs, AreToldAs, StatesRecording, recorded_warning}
 
 -- what is told of the event of a line in which one word, or none, was seen, or one that is left open, and another can be sent, or none
@@ -40,45 +41,100 @@ pub record IsFirstUnexplainedBy (explains : List Sighting → Type 0) (events : 
   pub possible : ExplainsReading explains (before ++ Seen (with_other sighting other) ∷ [])
   pub is_told : told ≡ told_at stated.line sighting other
 
--- so it is of the events of a script, from power-up
-abbrev pub IsFirstUnexplained : Description → List ℕ → ToldAnswer → Type 0
-IsFirstUnexplained P script told = (events : List StatedEvent) × (stated_through script ≡ Ok events) × IsFirstUnexplainedBy (IsExplained P) events told
-
--- The part of a recording that is judged where the unit was on before: it comes after the slot of a line, which ends a pause. Nothing is
--- told exactly if it is explained, whatever came before the pause; else the first of its events that nothing explains. A warning says why the
--- part shows nothing, where it does.
-pub record IsJudgedAfter (D : Description) (script : List ℕ) (after : ℕ) (told : Option ToldAnswer) (warning : Option ScriptWarning) : Type 0 where
-  pub front : List StatedEvent
-  pub pause : StatedEvent
-  pub events : List StatedEvent
-  pub all : stated_through script ≡ Ok (front ++ pause ∷ events)
-  pub line : after ≡ pause.line
-  pub recording : List MaybeSighting
-  pub are_told : AreToldAs (front ++ pause ∷ events) recording
-  pub part : List MaybeSighting
-  pub part_told : AreToldAs events part
-  pub is_part : fresh_part D no_gaps recording ≡ Some part
-  pub explained : (told ≡ None) ↔ ExplainsReading (IsExplainedLater D) part
-  pub first : IfSome told (IsFirstUnexplainedBy (IsExplainedLater D) events)
-  pub warned : warning ≡ recorded_warning part
-
--- no part of the recording of a script begins afresh after a pause
-abbrev pub HasNoPart : Description → List ℕ → Type 0
-HasNoPart D script = (recording : List MaybeSighting) × StatesRecording script recording × (fresh_part D no_gaps recording ≡ None)
-
--- what is told of a recording that began at any time, and the line after which it is judged: None where no part of it begins afresh
-abbrev pub IsJudgedSince : Description → List ℕ → Option ℕ → Option ToldAnswer → Option ScriptWarning → Type 0
-IsJudgedSince D script None told warning = (told ≡ None) × HasNoPart D script
-IsJudgedSince D script (Some line) told warning = IsJudgedAfter D script line told warning
+-- the first of two, if there is one
+abbrev pub first_some : {A : Type 0} → Option A → Option A → Option A
+first_some None b = b
+first_some (Some a) b = Some a
 
 -- what is told of a line, where something is
 abbrev pub told_first : Option UnexplainedLine → Option ToldAnswer
 told_first None = None
 told_first (Some line) = Some (told_answer line.answer)
 
--- whenever the recording of a script began, no behaviour of the subsystem explains it
-abbrev pub NothingExplains : Description → List ℕ → Type 0
-NothingExplains P script = (recording : List MaybeSighting) × StatesRecording script recording × (ExplainsReading (IsExplainedAnyTime P) recording → ⊥)
+-- What is told of events that are one part, from power-up: nothing exactly if some behaviour of the subsystem explains them, else the first of them
+-- that none explains.
+pub record IsJudgedFirst (P : Description) (events : List StatedEvent) (told : Option ToldAnswer) (recording : List MaybeSighting) : Type 0 where
+  pub are_told : AreToldAs events recording
+  pub explained : (told ≡ None) ↔ ExplainsReading (IsExplained P) recording
+  pub first : IfSome told (IsFirstUnexplainedBy (IsExplained P) events)
+
+-- What is told of events that are one part, of a unit that was on before. Judged is what comes after the slot of a line, which ends a pause. Nothing is
+-- told exactly if that is explained, whatever came before the pause; else the first of its events that nothing explains.
+pub record IsJudgedAfter (D : Description) (events : List StatedEvent) (after : ℕ) (told : Option ToldAnswer) (judged : List MaybeSighting) : Type 0 where
+  pub front : List StatedEvent
+  pub pause : StatedEvent
+  pub fresh : List StatedEvent
+  pub all : events ≡ front ++ pause ∷ fresh
+  pub line : after ≡ pause.line
+  pub recording : List MaybeSighting
+  pub are_told : AreToldAs events recording
+  pub judged_told : AreToldAs fresh judged
+  pub is_fresh : fresh_part D no_gaps recording ≡ Some judged
+  pub explained : (told ≡ None) ↔ ExplainsReading (IsExplainedLater D) judged
+  pub first : IfSome told (IsFirstUnexplainedBy (IsExplainedLater D) fresh)
+
+-- nothing of a part begins afresh after a pause
+abbrev pub BeginsNowhere : Description → List StatedEvent → Type 0
+BeginsNowhere D events = (recording : List MaybeSighting) × AreToldAs events recording × (fresh_part D no_gaps recording ≡ None)
+
+-- what is told of a part, the line after which it is judged, and what is judged of it: None, and nothing, where nothing begins afresh
+abbrev pub IsJudgedLater : Description → List StatedEvent → Option ℕ → Option ToldAnswer → List MaybeSighting → Type 0
+IsJudgedLater D events None told judged = (told ≡ None) × (judged ≡ []) × BeginsNowhere D events
+IsJudgedLater D events (Some line) told judged = IsJudgedAfter D events line told judged
+
+-- What is told of parts, one after the other: the first that is told of any, and the line after which the first of them is judged that is; judged
+-- is what is judged of each.
+abbrev pub AreJudgedLater : Description → List (List StatedEvent) → Option ℕ → Option ToldAnswer → List MaybeSighting → Type 0
+AreJudgedLater D [] after told judged = (after ≡ None) × (told ≡ None) × (judged ≡ [])
+AreJudgedLater D (events ∷ parts) after told judged =
+    (line : Option ℕ) × (lines : Option ℕ) × (one : Option ToldAnswer) × (others : Option ToldAnswer) × (seen : List MaybeSighting) × (more : List MaybeSighting)
+    × IsJudgedLater D events line one seen × AreJudgedLater D parts lines others more
+    × (after ≡ first_some line lines) × (told ≡ first_some one others) × (judged ≡ seen ++ more)
+
+-- What is told of a script that states a recording, from power-up: of its first part, or else of the others, which are judged by what can be
+-- reached. A warning says why what is judged shows nothing, where it does. So many slots are in it in which the unit may have been silent.
+pub record IsJudgedFrom (P D : Description) (script : List ℕ) (told : Option ToldAnswer) (warning : Option ScriptWarning) (silences : ℕ) : Type 0 where
+  pub events : List StatedEvent
+  pub says : stated_through script ≡ Ok events
+  pub front : List StatedEvent
+  pub parts : List (List StatedEvent)
+  pub split : split_parts events ≡ front ∷ parts
+  pub first : Option ToldAnswer
+  pub recording : List MaybeSighting
+  pub judged_first : IsJudgedFirst P front first recording
+  pub after : Option ℕ
+  pub later : Option ToldAnswer
+  pub judged : List MaybeSighting
+  pub judged_later : AreJudgedLater D parts after later judged
+  pub is : told ≡ first_some first later
+  pub warned : warning ≡ recorded_warning (recording ++ judged)
+  pub counted : silences ≡ length parts
+
+-- What is told of a script that states a recording which began at any time: of all its parts, and the line after which the first of them is
+-- judged that is.
+pub record IsJudgedSince (D : Description) (script : List ℕ) (after : Option ℕ) (told : Option ToldAnswer) (warning : Option ScriptWarning) (silences : ℕ) : Type 0 where
+  pub events : List StatedEvent
+  pub says : stated_through script ≡ Ok events
+  pub judged : List MaybeSighting
+  pub are_judged : AreJudgedLater D (split_parts events) after told judged
+  pub warned : warning ≡ recorded_warning judged
+  pub counted : length (split_parts events) ≡ suc silences
+
+-- no part of the recording of a script begins afresh after a pause
+abbrev pub HasNoPart : Description → List ℕ → Type 0
+HasNoPart D script = (recording : List MaybeSighting) × StatesRecording script recording × (fresh_part D no_gaps recording ≡ None)
+
+-- one of the parts of a script is such that no behaviour of the subsystem explains it, whenever it began
+pub record NothingExplains (P : Description) (script : List ℕ) : Type 0 where
+  pub before : List (List StatedEvent)
+  pub part : List StatedEvent
+  pub behind : List (List StatedEvent)
+  pub events : List StatedEvent
+  pub says : stated_through script ≡ Ok events
+  pub split : split_parts events ≡ before ++ part ∷ behind
+  pub recording : List MaybeSighting
+  pub are_told : AreToldAs part recording
+  pub never : ExplainsReading (IsExplainedAnyTime P) recording → ⊥
 
 -- Events that can come, of which just that is seen which came for certain, if some behaviour of the subsystem explains that. Gaps that may
 -- have come are left out.

@@ -1,6 +1,8 @@
 -- The recording that a script states: each of its events is one that is seen, and what is stated of it is the line of the word that
--- was sent, or nothing where none was. A data word can be left open, and a gap may have come or not. What is handed over is left out.
-use Rattle.std.specs.Prelude.{◌≡◌, ◌≢◌, ◌<◌, ◌^◌, ◌==◌, ◌&&◌, ℕ, Bool, true, false, not, if◌then◌else◌, Option, Some, None, is_some, codes, Result, Ok, Err, List, [], ◌∷◌, ◌++◌, filter, length}
+-- was sent, or nothing where none was. A data word can be left open, and a gap may have come or not. What is handed over is left out. A slot in
+-- which the unit may have been silent ends a part of it.
+use Rattle.std.specs.Prelude.{◌≡◌, ◌≢◌, ◌⊎◌, ◌<◌, ◌^◌, ◌==◌, ◌&&◌, ℕ, Bool, true, false, not, if◌then◌else◌, Option, Some, None, is_some, codes, Result, Ok, Err, List, [], ◌∷◌, ◌++◌, filter, length}
+use Rattle.std.specs.List.{AllByRecursion}
 use Rattle.bus_word.specs.declared.word.Bus.{Bus}
 use Rattle.bus_word.specs.declared.word.Bus.TheVariants.{A, B}
 use Rattle.bus_word.specs.declared.word.Kind.TheVariants.{Dat}
@@ -18,6 +20,7 @@ use Rattle.rt1553_verify.specs.declared.stated.StatedFault.TheVariants.{Memory, 
 use Rattle.rt1553_verify.specs.Stated.{StatedEvent, is_gap, is_maybe, stated_through, then_events, stated_warning}
 use Rattle.script_recordings.specs.declared.reading.RecordingFault.{RecordingFault}
 use Rattle.script_recordings.specs.declared.reading.RecordingFault.TheVariants.{Unseen, Masked, NoWord, TooManyWays, Script}
+use Rattle.script_recordings.specs.Parts.{is_silence, heard}
 
 -- the line that leaves a data word open, on a bus: its bits are dots
 abbrev pub open_line : Bus → List ℕ
@@ -76,26 +79,31 @@ abbrev pub IsUnseenAs : StatedEvent → RecordingFault → Type 0
 IsUnseenAs s (Unseen n) = (n ≡ s.line) × (is_seen s.event ≡ false)
 IsUnseenAs s fault = StatesNoWord (bus_shows s) fault
 
--- events are no recording, since this is the first of them that is no sighting
-abbrev pub IsNoRecording : List StatedEvent → RecordingFault → Type 0
-IsNoRecording ss fault =
-    (front : List StatedEvent) × (s : StatedEvent) × (rest : List StatedEvent) × (xs : List MaybeSighting)
-    × (ss ≡ front ++ s ∷ rest) × AreToldAs front xs × IsUnseenAs s fault
+-- each event is a slot in which the unit may have been silent, or what is stated of it is a sighting or a gap that may have come
+abbrev pub AreNoted : List StatedEvent → Type 0
+AreNoted ss = AllByRecursion (λ s. (is_silence s ≡ true) ⊎ ((x : MaybeSighting) × IsToldAs s x)) ss
 
--- a script states a recording: it says events, and this is told of them
+-- events are a recording, of which this is told; slots in which the unit may have been silent are left out
+abbrev pub AreRecording : Result (List StatedEvent) StatedFault → List MaybeSighting → Type 0
+AreRecording said xs = (ss : List StatedEvent) × (said ≡ Ok ss) × AreToldAs (heard ss) xs
+
+-- so are those of a script
 abbrev pub StatesRecording : List ℕ → List MaybeSighting → Type 0
-StatesRecording script xs = (ss : List StatedEvent) × (stated_through script ≡ Ok ss) × AreToldAs ss xs
+StatesRecording script xs = AreRecording (stated_through script) xs
 
--- a script begins with events of which this is told
-abbrev pub BeginsAs : List ℕ → List MaybeSighting → Type 0
-BeginsAs script xs = (front : List StatedEvent) × (later : Result (List StatedEvent) StatedFault) × (stated_through script ≡ then_events front later) × AreToldAs front xs
+-- Why events are none: there is a fault among them, or else the first of them that is neither a sighting nor such a slot; or gaps that may have come
+-- leave room for too many ways to judge some of them, one after the other. That memory runs out and that a read fails say nothing of them.
+abbrev pub AreNoRecording : Result (List StatedEvent) StatedFault → RecordingFault → Type 0
+AreNoRecording said (Script fault) = fault ≢ Memory → fault ≢ Read → said ≡ Err fault
+AreNoRecording said TooManyWays =
+    (front : List StatedEvent) × (some : List StatedEvent) × (later : Result (List StatedEvent) StatedFault) × (xs : List MaybeSighting)
+    × (said ≡ then_events (front ++ some) later) × AreToldAs (heard some) xs × HasManyWays xs
+AreNoRecording said fault =
+    (front : List StatedEvent) × (s : StatedEvent) × (rest : List StatedEvent) × (said ≡ Ok (front ++ s ∷ rest)) × AreNoted front × (is_silence s ≡ false) × IsUnseenAs s fault
 
--- Why a script states none: it has a fault, or else what it says is no recording; or gaps that may have come leave room for too many
--- ways to judge it. That memory runs out and that a read fails say nothing of it.
+-- so are those of a script
 abbrev pub StatesNoRecording : List ℕ → RecordingFault → Type 0
-StatesNoRecording script (Script fault) = fault ≢ Memory → fault ≢ Read → stated_through script ≡ Err fault
-StatesNoRecording script TooManyWays = (xs : List MaybeSighting) × BeginsAs script xs × HasManyWays xs
-StatesNoRecording script fault = (ss : List StatedEvent) × (stated_through script ≡ Ok ss) × IsNoRecording ss fault
+StatesNoRecording script fault = AreNoRecording (stated_through script) fault
 
 -- a word was sent
 abbrev pub shows_word : MaybeSighting → Bool

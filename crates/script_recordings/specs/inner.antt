@@ -4,3 +4,4 @@ pub mod Reads
 pub mod Plays
 pub mod Tallies
 pub mod Settled
+pub mod PartsTold

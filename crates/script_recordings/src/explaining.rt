@@ -1,17 +1,17 @@
 //! The first line of a recording that nothing explains.
-ghost use Rattle.std.specs.Prelude.{◌≡◌, ◌↔◌, true, false, drop, IfOk, IfErr, IfSome, List, None};
+ghost use Rattle.std.specs.Prelude.{◌≡◌, ◌<◌, true, false, IfOk, IfErr, IfSome, List, None};
 ghost use Rattle.bus_legal.specs.Description.{Description};
-ghost use Rattle.bus_legal.specs.Parts.{description_in};
+ghost use Rattle.bus_legal.specs.Parts.{description_in, IsNormal};
 ghost use Rattle.bus_legal.specs.Reach.{reach};
-ghost use Rattle.terminal_recordings.specs.Recordings.{IsExplained};
-ghost use Rattle.terminal_recordings.specs.MaybeGaps.{MaybeSighting, ExplainsReading};
 ghost use Rattle.recorded_terminal.specs.declared.watch.Marked.{Marked};
-ghost use Rattle.recorded_terminal.specs.Marks.{masked, maybe_in};
+ghost use Rattle.recorded_terminal.specs.Marks.{masked};
 ghost use Rattle.recorded_terminal.specs.SentWords.{word_shown};
+ghost use Rattle.rt1553_verify.specs.Reader.{left_in, turns_left};
 ghost use Rattle.rt1553_verify.specs.Verify.{told_answer};
-ghost use Rattle.script_recordings.specs.Seen.{stated_word, recorded_warning, StatesRecording, StatesNoRecording};
-ghost use Rattle.script_recordings.specs.Explained.{told_at, told_first, IsFirstUnexplained, IsJudgedSince, NothingExplains};
-ghost use Rattle.script_recordings.specs.inner.Reads.{TellsUnexplained, TellsJudged};
+ghost use Rattle.script_recordings.specs.Seen.{stated_word, recorded_warning, AreNoRecording, StatesNoRecording};
+ghost use Rattle.script_recordings.specs.Explained.{told_at, first_some, told_first, IsJudgedFrom, IsJudgedSince, NothingExplains};
+ghost use Rattle.script_recordings.specs.inner.Reads.{ReadsThen, TellsUnexplained, TellsJudged};
+ghost use Rattle.script_recordings.specs.inner.PartsTold.{joined_warning, judged_of, TellsNone, TellsThen, IsToldFirst, IsToldLater, AreOthersTold};
 ghost use Rattle.script_recordings.specs.inner.Tallies.{IsTally};
 
 use crate::reading::{RecordingFault, RecordingReader};
@@ -20,7 +20,7 @@ use crate::words::open_line;
 use bus_legal::Normal;
 use bus_terminal::{Answer, Sent};
 use recorded_terminal::{FreshPart, LaterWatch, Marked, Unexplained, Watch};
-use rt1553_verify::{ScriptWarning, WrongAnswer};
+use rt1553_verify::{ScriptWarning, StatedFault, WrongAnswer};
 use script_lines::write_answer;
 use std::alloc::{AllocError, Global};
 use std::io::BufRead;
@@ -39,7 +39,9 @@ pub struct UnexplainedLine {
 pub struct Explained {
     /// How many words it states.
     pub answers: usize,
-    /// Why that shows nothing, or little, where it does.
+    /// In how many of its slots the unit may have been silent: behind each, what it did is not judged up to the next pause.
+    pub silences: u64,
+    /// Why what is judged shows nothing, or little, where it does.
     pub warning: Option<ScriptWarning>,
     pub first: Option<UnexplainedLine>,
 }
@@ -49,7 +51,9 @@ pub struct Explained {
 pub struct ExplainedSince {
     /// How many words it states.
     pub answers: usize,
-    /// Why the part that is judged shows nothing, where it does.
+    /// In how many of its slots the unit may have been silent: behind each, what it did is not judged up to the next pause.
+    pub silences: u64,
+    /// Why what is judged shows nothing, where it does.
     pub warning: Option<ScriptWarning>,
     /// The line of the slot that ends the pause after which it is judged. None where no part of it begins afresh after a pause.
     pub after: Option<u64>,
@@ -115,86 +119,197 @@ fn first_told(
     }
 }
 
-/// What is told of the part that is judged.
+/// What is told of a part, or of parts one after the other.
 #[derive(Drop)]
-struct JudgedTold {
+struct PartTold {
+    answers: usize,
     warning: Option<ScriptWarning>,
+    /// The line after which the first of them is judged that is.
     after: Option<u64>,
     first: Option<UnexplainedLine>,
 }
 
-fn judged_told(
+/// The first of two, if there is one.
+fn first_some<T: Drop>(one: Option<T>, other: Option<T>) -> Option<T>
+    ensures { result ≡ first_some one other }
+{
+    match one {
+        Some(one) => Some(one),
+        None => other,
+    }
+}
+
+/// Why two parts show nothing, by the same of each.
+fn joined_warning(one: Option<ScriptWarning>, other: Option<ScriptWarning>) -> Option<ScriptWarning>
+    ensures { result ≡ joined_warning one other }
+{
+    match (one, other) {
+        (Some(ScriptWarning::NoEvent), other) => other,
+        (Some(ScriptWarning::NoAnswer), Some(_)) => Some(ScriptWarning::NoAnswer),
+        _ => None,
+    }
+}
+
+impl PartTold {
+    /// Nothing is told of no parts.
+    fn none() -> PartTold
+        ensures { TellsNone result }
+    {
+        PartTold {
+            answers: 0,
+            warning: Some(ScriptWarning::NoEvent),
+            after: None,
+            first: None,
+        }
+    }
+
+    /// What is told of these parts and then of others.
+    fn then(self, others: PartTold) -> PartTold
+        ensures { TellsThen self others result }
+    {
+        PartTold {
+            answers: self.answers.saturating_add(others.answers),
+            warning: joined_warning(self.warning, others.warning),
+            after: first_some(self.after, others.after),
+            first: first_some(self.first, others.first),
+        }
+    }
+}
+
+/// What is told of a part of a recording that began at any time.
+fn later_told(
     alloc: Global,
     tally: &Tally,
     judged: Option<FreshPart>,
-) -> Result<JudgedTold, AllocError>
+) -> Result<PartTold, AllocError>
     ensures told { IfOk result (λ told. TellsJudged judged told.after told.first) }
-    ensures warned { IfOk result (λ told. (ms : List Marked) → IsTally ms tally.now → IfSome judged (λ part. told.warning ≡ recorded_warning (maybe_in (drop part.before ms)))) }
+    ensures warned { IfOk result (λ told. (ms : List Marked) → IsTally ms tally.now → told.warning ≡ recorded_warning (judged_of judged ms)) }
 {
     match judged {
-        Some(judged) => Ok(JudgedTold {
+        Some(judged) => Ok(PartTold {
+            answers: tally.answers,
             warning: tally.warning_behind(judged.before),
             after: Some(judged.after),
             first: first_told(alloc, judged.first)?,
         }),
-        None => Ok(JudgedTold {
-            warning: None,
+        None => Ok(PartTold {
+            answers: tally.answers,
+            warning: Some(ScriptWarning::NoEvent),
             after: None,
             first: None,
         }),
     }
 }
 
-/// Reads a recording, of a terminal from power-up, for the first event which no behaviour of the subsystem explains: what is stated of
-/// it, and a line with which it would be explained. None where the whole recording is explained, with some of the gaps in it that may have
-/// come. A script that states no recording is refused. What lies between two status words is kept, and no more.
-pub fn watch_recording<B: BufRead + Drop>(
+/// Judges the next part of a recording from power-up.
+fn judge_first<B: BufRead + Drop>(
     alloc: Global,
     normal: &Normal,
-    input: B,
-) -> Result<Explained, RecordingFault>
-    ensures explained { (P : Description) → description_in normal.now ≡ reach P → IfOk result (λ it. IfSome (B.remaining input) (λ script. (recording : List MaybeSighting) × StatesRecording script recording × ((it.first ≡ None) ↔ ExplainsReading (IsExplained P) recording) × (it.warning ≡ recorded_warning recording))) }
-    ensures first { (P : Description) → description_in normal.now ≡ reach P → IfOk result (λ it. IfSome it.first (λ line. IfSome (B.remaining input) (λ script. IsFirstUnexplained P script (told_answer line.answer)))) }
-    ensures refused { IfErr result (λ fault. IfSome (B.remaining input) (λ script. StatesNoRecording script fault)) }
+    reader: &mut RecordingReader<B>,
+) -> Result<PartTold, RecordingFault>
+    ensures judged { IfOk result (λ told. ReadsThen (left_in B.remaining reader.old.script) (left_in B.remaining reader.new.script) reader.new.silence (λ events. (P : Description) → description_in normal.now ≡ reach P → IsToldFirst P events told)) }
+    ensures refused { IfErr result (λ fault. IfSome (left_in B.remaining reader.old.script) (λ said. AreNoRecording said fault)) }
 {
-    let mut reader = RecordingReader::new(alloc, normal.address(), input);
     let mut watch = Watch::power_up(alloc, normal.setup(), *normal)?;
     let mut tally = Tally::new();
     'sightings: while let Some(marked) = reader.next()? {
         tally.take(&marked)?;
         watch.see(marked)?;
     }
-    Ok(Explained {
+    Ok(PartTold {
         answers: tally.answers,
         warning: tally.warning_behind(0),
+        after: None,
         first: first_told(alloc, watch.end()?)?,
     })
 }
 
-/// Reads a recording that began at any time for the first event, in its first part that begins afresh after a pause, which no behaviour of
-/// the subsystem explains, whatever came before. A script that states no recording is refused. What lies between two status words is
-/// kept, and no more.
-pub fn watch_since<B: BufRead + Drop>(
+/// Judges the next part of a recording that began at any time.
+fn judge_later<B: BufRead + Drop>(
     alloc: Global,
     normal: &Normal,
-    input: B,
-) -> Result<ExplainedSince, RecordingFault>
-    ensures judged { IfOk result (λ it. IfSome (B.remaining input) (λ script. IsJudgedSince (description_in normal.now) script it.after (told_first it.first) it.warning)) }
-    ensures never { (P : Description) → description_in normal.now ≡ reach P → IfOk result (λ it. IfSome it.first (λ line. IfSome (B.remaining input) (λ script. NothingExplains P script))) }
-    ensures refused { IfErr result (λ fault. IfSome (B.remaining input) (λ script. StatesNoRecording script fault)) }
+    reader: &mut RecordingReader<B>,
+) -> Result<PartTold, RecordingFault>
+    ensures judged { IfOk result (λ told. ReadsThen (left_in B.remaining reader.old.script) (left_in B.remaining reader.new.script) reader.new.silence (λ events. IsToldLater (description_in normal.now) events told)) }
+    ensures refused { IfErr result (λ fault. IfSome (left_in B.remaining reader.old.script) (λ said. AreNoRecording said fault)) }
+    ensures fewer { IfOk result (λ _. IfSome reader.new.silence (λ _. turns_left reader.new.script < turns_left reader.old.script)) }
+    ensures normal { IsNormal normal.now }
 {
-    let mut reader = RecordingReader::new(alloc, normal.address(), input);
     let mut watch = LaterWatch::new(alloc, normal.setup(), *normal)?;
     let mut tally = Tally::new();
     'sightings: while let Some(marked) = reader.next()? {
         tally.take(&marked)?;
         watch.see(marked)?;
     }
-    let judged = judged_told(alloc, &tally, watch.end()?)?;
+    Ok(later_told(alloc, &tally, watch.end()?)?)
+}
+
+/// Judges the parts that follow one which has been read, and gives how many there are. More than 2^64 - 1 are as if memory had run out.
+fn judge_others<B: BufRead + Drop>(
+    alloc: Global,
+    normal: &Normal,
+    reader: &mut RecordingReader<B>,
+) -> Result<(PartTold, u64), RecordingFault>
+    ensures judged { IfOk result (λ told. AreOthersTold (description_in normal.now) (left_in B.remaining reader.old.script) reader.old.silence told.0 told.1) }
+    ensures refused { IfErr result (λ fault. (reader.old.silence ≡ None → ⊥) × IfSome (left_in B.remaining reader.old.script) (λ said. AreNoRecording said fault)) }
+{
+    let (mut told, mut parts) = (PartTold::none(), 0_u64);
+    'parts: while reader.silence.is_some() {
+        let part = judge_later(alloc, normal, reader)?;
+        told = told.then(part);
+        if parts == u64::MAX {
+            return Err(RecordingFault::Script(StatedFault::Memory));
+        }
+        parts += 1;
+    }
+    Ok((told, parts))
+}
+
+/// Reads a recording, of a terminal from power-up, for the first event which no behaviour of the subsystem explains: what is stated of
+/// it, and a line with which it would be explained. None where the whole recording is explained, with some of the gaps in it that may have
+/// come. Behind a slot in which the unit may have been silent it is judged from the next pause on, as by `watch_since`. A script that states no
+/// recording is refused. What lies between two status words is kept, and no more.
+pub fn watch_recording<B: BufRead + Drop>(
+    alloc: Global,
+    normal: &Normal,
+    input: B,
+) -> Result<Explained, RecordingFault>
+    ensures judged { (P : Description) → description_in normal.now ≡ reach P → IfOk result (λ it. IfSome (B.remaining input) (λ script. IsJudgedFrom P (description_in normal.now) script (told_first it.first) it.warning it.silences)) }
+    ensures refused { IfErr result (λ fault. IfSome (B.remaining input) (λ script. StatesNoRecording script fault)) }
+{
+    let mut reader = RecordingReader::new(alloc, normal.address(), input);
+    let first = judge_first(alloc, normal, &mut reader)?;
+    let (others, silences) = judge_others(alloc, normal, &mut reader)?;
+    let told = first.then(others);
+    Ok(Explained {
+        answers: told.answers,
+        silences,
+        warning: told.warning,
+        first: told.first,
+    })
+}
+
+/// Reads a recording that began at any time for the first event, in what begins afresh after a pause, which no behaviour of the subsystem
+/// explains, whatever came before. Behind a slot in which the unit may have been silent the same is sought anew. A script that states no
+/// recording is refused. What lies between two status words is kept, and no more.
+pub fn watch_since<B: BufRead + Drop>(
+    alloc: Global,
+    normal: &Normal,
+    input: B,
+) -> Result<ExplainedSince, RecordingFault>
+    ensures judged { IfOk result (λ it. IfSome (B.remaining input) (λ script. IsJudgedSince (description_in normal.now) script it.after (told_first it.first) it.warning it.silences)) }
+    ensures never { (P : Description) → description_in normal.now ≡ reach P → IfOk result (λ it. IfSome it.first (λ line. IfSome (B.remaining input) (λ script. NothingExplains P script))) }
+    ensures refused { IfErr result (λ fault. IfSome (B.remaining input) (λ script. StatesNoRecording script fault)) }
+{
+    let mut reader = RecordingReader::new(alloc, normal.address(), input);
+    let first = judge_later(alloc, normal, &mut reader)?;
+    let (others, silences) = judge_others(alloc, normal, &mut reader)?;
+    let told = first.then(others);
     Ok(ExplainedSince {
-        answers: tally.answers,
-        warning: judged.warning,
-        after: judged.after,
-        first: judged.first,
+        answers: told.answers,
+        silences,
+        warning: told.warning,
+        after: told.after,
+        first: told.first,
     })
 }

@@ -5,9 +5,10 @@ ghost use Rattle.rt1553_verify.specs.Stated.{shown, stated_through};
 ghost use Rattle.rt1553_verify.specs.Reader.{left_in, turns_left};
 ghost use Rattle.recorded_terminal.specs.Marks.{IsSeen, maybe_in, masked};
 ghost use Rattle.recorded_terminal.specs.SentWords.{word_shown};
+ghost use Rattle.script_recordings.specs.Parts.{is_silence};
 ghost use Rattle.script_recordings.specs.Seen.{bus_shows, open_line, stated_word, IsData, StatesSent, IsNoWord, IsSeenAs, StatesNoWord, IsUnseenAs, StatesRecording, StatesNoRecording};
 ghost use Rattle.script_recordings.specs.Messages.{InMessage, AreInMessages};
-ghost use Rattle.script_recordings.specs.inner.Reads.{IsMarkedAs, NextSeen, RefusesRest, watch_fault_of};
+ghost use Rattle.script_recordings.specs.inner.Reads.{EndsPart, IsMarkedAs, NextSeen, RefusesRest, watch_fault_of};
 ghost use Rattle.script_recordings.specs.declared.reading.RecordingFault.TheVariants.{Masked, NoWord, Script};
 ghost use Rattle.rt1553_verify.specs.declared.stated.StatedFault.TheVariants.{Memory};
 
@@ -124,7 +125,7 @@ fn word_of(stated: &Stated) -> Result<StatedWord, RecordingFault>
     ensures sent { IfOk result (λ word. StatesSent (bus_shows (shown stated.now)) word.any_word (word_shown word.sent)) }
     ensures refused { IfErr result (λ fault. StatesNoWord (bus_shows (shown stated.now)) fault) }
 {
-    if matches!(stated.event, Event::Gap(_)) && stated.matching != Matching::MaybeGap {
+    if matches!(stated.event, Event::Gap(_)) && stated.matching != Matching::Maybe {
         return whole_word(stated.line, b"");
     }
     match stated.matching {
@@ -142,7 +143,7 @@ fn marked_as(stated: &Stated, command: Option<u16>) -> Result<Marked, RecordingF
     ensures refused { IfErr result (λ fault. IsUnseenAs (shown stated.now) fault) }
 {
     match stated.event {
-        Event::Gap(bus) if stated.matching == Matching::MaybeGap => Ok(Marked {
+        Event::Gap(bus) if stated.matching == Matching::Maybe => Ok(Marked {
             sighting: Sighting {
                 event: Event::Gap(bus),
                 sent: None,
@@ -188,6 +189,13 @@ fn refuse_rest<B: BufRead>(script: &mut StatedReader<B>, fault: RecordingFault) 
     }
 }
 
+/// Whether the unit may have been silent in the slot of an event.
+fn is_silence(stated: &Stated) -> bool
+    ensures { result ≡ is_silence (shown stated.now) }
+{
+    matches!(stated.event, Event::Slot) && stated.matching == Matching::Maybe
+}
+
 /// The recording that a script states, read sighting by sighting.
 #[derive(Drop)]
 pub struct RecordingReader<B> {
@@ -196,6 +204,8 @@ pub struct RecordingReader<B> {
     address: u8,
     /// The command word of the message in progress.
     command: Option<u16>,
+    /// The line of the slot that ended the part which was read, since the unit may have been silent there. None at the end of the script.
+    pub silence: Option<u64>,
 }
 
 impl<B: BufRead> RecordingReader<B> {
@@ -208,19 +218,28 @@ impl<B: BufRead> RecordingReader<B> {
             script: StatedReader::new(alloc, input),
             address,
             command: None,
+            silence: None,
         }
     }
 
-    /// Gives the sighting that comes next. None where none is left.
+    /// Gives the sighting that comes next in a part. None at its end.
     pub fn next(&mut self) -> Result<Option<Marked>, RecordingFault>
         ensures next { NextSeen (left_in B.remaining self.old.script) (left_in B.remaining self.new.script) result }
+        ensures ended { IfOk result (λ next. next ≡ None → EndsPart (left_in B.remaining self.old.script) (left_in B.remaining self.new.script) self.new.silence) }
         ensures fewer { IfOk result (λ next. IfSome next (λ _. turns_left self.new.script < turns_left self.old.script)) }
+        ensures fewer_parts { IfOk result (λ next. next ≡ None → IfSome self.new.silence (λ _. turns_left self.new.script < turns_left self.old.script)) }
         ensures message { IfOk result (λ next. IfSome next (λ m. InMessage self.old.address self.old.command m × (self.new.command ≡ m.command))) }
+        ensures kept { IfOk result (λ next. next ≡ None → self.new.command ≡ self.old.command) }
         ensures address { self.new.address ≡ self.old.address }
     {
         let Some(stated) = self.script.next()? else {
+            self.silence = None;
             return Ok(None);
         };
+        if is_silence(&stated) {
+            self.silence = Some(stated.line);
+            return Ok(None);
+        }
         self.command = command_after(self.address, self.command, stated.event);
         match marked_as(&stated, self.command) {
             Ok(marked) => Ok(Some(marked)),
@@ -229,8 +248,8 @@ impl<B: BufRead> RecordingReader<B> {
     }
 }
 
-/// Gives the recording that a script states, a sighting for each of its events, with its place and the command word of its message. The first fault of
-/// the script refuses it, or else the first event that is no sighting.
+/// Gives the recording that a script states, a sighting for each of its events, with its place and the command word of its message. Slots in which the
+/// unit may have been silent are left out. The first fault of the script refuses it, or else the first event that is no sighting.
 pub fn read_recording<B: BufRead + Drop>(
     alloc: Global,
     address: u8,
@@ -242,8 +261,14 @@ pub fn read_recording<B: BufRead + Drop>(
 {
     let mut reader = RecordingReader::new(alloc, address, input);
     let mut recording = Vec::new(alloc);
-    'sightings: while let Some(marked) = reader.next()? {
-        recording.push(marked)?;
+    'events: loop {
+        match reader.next()? {
+            Some(marked) => recording.push(marked)?,
+            None => {
+                if reader.silence.is_none() {
+                    return Ok(recording);
+                }
+            }
+        }
     }
-    Ok(recording)
 }

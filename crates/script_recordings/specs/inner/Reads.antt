@@ -1,5 +1,6 @@
 -- What is read of a recording, sighting by sighting.
-use Rattle.std.specs.Prelude.{◌≡◌, ◌≢◌, ◌⊎◌, ℕ, Option, Some, None, List, [], ◌∷◌, Result, Ok, Err}
+use Rattle.std.specs.Prelude.{◌≡◌, ◌≢◌, ◌⊎◌, ℕ, true, false, Option, Some, None, List, [], ◌∷◌, ◌++◌, Result, Ok, Err}
+use Rattle.terminal_recordings.specs.MaybeGaps.{MaybeSighting}
 use Rattle.recorded_terminal.specs.declared.watch.Marked.{Marked}
 use Rattle.recorded_terminal.specs.declared.watch.Unexplained.{Unexplained}
 use Rattle.recorded_terminal.specs.declared.later.FreshPart.{FreshPart}
@@ -15,7 +16,8 @@ use Rattle.script_recordings.specs.declared.explaining.UnexplainedLine.{Unexplai
 use Rattle.script_recordings.specs.Explained.{told_at}
 use Rattle.script_recordings.specs.declared.reading.RecordingFault.{RecordingFault}
 use Rattle.script_recordings.specs.declared.reading.RecordingFault.TheVariants.{Script, TooManyWays}
-use Rattle.script_recordings.specs.Seen.{IsToldAs, IsUnseenAs}
+use Rattle.script_recordings.specs.Parts.{is_silence}
+use Rattle.script_recordings.specs.Seen.{IsToldAs, AreToldAs, IsUnseenAs}
 
 abbrev pub Left : Type 0
 Left = Option (Result (List StatedEvent) StatedFault)
@@ -39,14 +41,31 @@ RefusesRest None fault given = Unit {0}
 RefusesRest (Some (Ok ss)) fault given = (given ≡ fault) ⊎ SaysNothing given
 RefusesRest (Some (Err other)) fault given = (given ≡ Script other) ⊎ SaysNothing given
 
--- the sighting that comes next is that of the first event that is left, or there is none, or a fault is
+-- these events come next in what is left: up to one with which a part ends, in this line, or all that are left
+abbrev pub ReadsPart : Left → Left → Option ℕ → List StatedEvent → Type 0
+ReadsPart None new silence events = Unit {0}
+ReadsPart (Some said) new None events = said ≡ Ok events
+ReadsPart (Some said) new (Some line) events =
+    (s : StatedEvent) × (later : Result (List StatedEvent) StatedFault) × (new ≡ Some later) × (said ≡ then_events (events ++ s ∷ []) later) × (is_silence s ≡ true) × (line ≡ s.line)
+
+-- so they do, a sighting each, and this holds of them
+abbrev pub ReadsThen : Left → Left → Option ℕ → (List StatedEvent → Type 0) → Type 0
+ReadsThen None new silence Holds = Unit {0}
+ReadsThen (Some said) new silence Holds =
+    (events : List StatedEvent) × ReadsPart (Some said) new silence events × ((xs : List MaybeSighting) × AreToldAs events xs) × Holds events
+
+-- a part ends here
+abbrev pub EndsPart : Left → Left → Option ℕ → Type 0
+EndsPart left new silence = ReadsPart left new silence []
+
+-- the sighting that comes next is that of the first event that is left, or a fault is
 abbrev pub NextSeen : Left → Left → Result (Option Marked) RecordingFault → Type 0
 NextSeen None new result = Unit {0}
-NextSeen (Some said) new (Ok None) = said ≡ Ok []
+NextSeen (Some said) new (Ok None) = Unit {0}
 NextSeen (Some said) new (Ok (Some m)) =
     (s : StatedEvent) × (later : Result (List StatedEvent) StatedFault) × (new ≡ Some later) × (said ≡ then_events (s ∷ []) later) × IsMarkedAs s m
 NextSeen (Some said) new (Err (Script fault)) = fault ≢ Memory → fault ≢ Read → said ≡ Err fault
-NextSeen (Some said) new (Err fault) = (s : StatedEvent) × (rest : List StatedEvent) × (said ≡ Ok (s ∷ rest)) × IsUnseenAs s fault
+NextSeen (Some said) new (Err fault) = (s : StatedEvent) × (rest : List StatedEvent) × (said ≡ Ok (s ∷ rest)) × (is_silence s ≡ false) × IsUnseenAs s fault
 
 -- what is told of the first sighting that nothing explains, where there is one
 abbrev pub TellsUnexplained : Option Unexplained → Option UnexplainedLine → Type 0

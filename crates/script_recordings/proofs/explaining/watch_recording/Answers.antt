@@ -1,72 +1,24 @@
-use Rattle.std.proofs.Common.{◌++◌, ◌∷◌, [], Ok, subst}
+use Rattle.std.proofs.Common.{◌≡◌}
 use Rattle.std.proofs.lemmas.Result.{err_from_is_err_and}
-use Rattle.bus_legal.specs.Description.{Description, described}
-use Rattle.bus_legal.specs.Tables.{tables_say}
-use Rattle.rt1553.proofs.EngineLaws.{set_up_alike}
+use Rattle.bus_legal.specs.Parts.{description_in}
+use Rattle.bus_legal.specs.Reach.{reach}
 use Rattle.rt1553_verify.specs.Reader.{left_in}
-use Rattle.script_recordings.specs.inner.Reads.{NextSeen}
-use Rattle.script_recordings.proofs.ReadLaws.{read_none, read_more, read_fault, watch_refused}
-use Rattle.script_recordings.proofs.ExplainedLaws.{explained_all, first_all}
+use Rattle.script_recordings.specs.Seen.{AreNoRecording}
+use Rattle.script_recordings.proofs.ReadLaws.{of_script}
+use Rattle.script_recordings.proofs.PartLaws.{rest_refused, judged_from}
 use Rattle.script_recordings.proofs.explaining.watch_recording.Goals as goal
 
-pub sightings-init : goal.sightings-init
-sightings-init g c = ([], λ Q w. w, read_none (g.B.Read.remaining c.args.input) (left_in g.B.Read.remaining c.new-reader.result.script) c.new-reader.ensures.reads, c.new-tally.ensures)
+pub returns-clause-judged : goal.returns-clause-judged
+returns-clause-judged g c P reached =
+    judged_from P (description_in c.args.normal.now) (g.B.Read.remaining c.args.input) (left_in g.B.Read.remaining c.new-reader.result.script) (left_in g.B.Read.remaining c.judge_first.new.reader.script)
+    c.judge_first.new.reader.silence c.in_ok-first.first c.in_ok-others.others c.then-told.result c.in_ok-others.silences c.new-reader.ensures.reads
+    (λ P. description_in c.args.normal.now ≡ reach P) reached c.in_ok-first.ensures.judged c.in_ok-others.ensures.judged c.then-told.ensures
 
-pub sightings-preserved : goal.sightings-preserved
-sightings-preserved g c =
-    let i = c.sightings.invariant in (
-      i.0 ++ c.in-Some.marked ∷ [],
-      λ Q w. c.in_ok-see.ensures.sees Q [] i.0 (i.1 Q w),
-      read_more (g.B.Read.remaining c.args.input) (left_in g.B.Read.remaining c.sightings.reader.script) (left_in g.B.Read.remaining c.next.new.self.script) i.0 c.in-Some.marked i.2
-          (subst (λ o. NextSeen (left_in g.B.Read.remaining c.sightings.reader.script) (left_in g.B.Read.remaining c.next.new.self.script) (Ok o)) c.in-Some.is c.in_ok-marked.ensures.next),
-      c.in_ok-take.ensures i.0 i.3,
-    )
-
-pub returns-in_err-marked-clause-refused : goal.returns-in_err-marked-clause-refused
-returns-in_err-marked-clause-refused g c =
-    let i = c.sightings.invariant in
-    let r = c.from_residual-in_err-marked in
+pub returns-in_err-others-clause-refused : goal.returns-in_err-others-clause-refused
+returns-in_err-others-clause-refused g c =
+    let all = left_in g.B.Read.remaining c.new-reader.result.script in
+    let r = c.from_residual-in_err-others in
     let p = err_from_is_err_and r.result r.ensures.1 in
-    rw (p.1, p.2) (read_fault (g.B.Read.remaining c.args.input) (left_in g.B.Read.remaining c.sightings.reader.script) (left_in g.B.Read.remaining c.next.new.self.script) i.0 _ i.2
-    c.in_err-marked.ensures.next)
-
-pub returns-clause-explained : goal.returns-clause-explained
-returns-clause-explained g c P reached =
-    let i = c.sightings.invariant in
-    let v = c.args.normal.now in
-    let Q : Description = described c.setup.result (tables_say v.tables) in
-    let alike = set_up_alike v c.setup.result P c.setup.ensures.normal c.setup.ensures.parts c.setup.result.own_address reached in
-    explained_all (g.B.Read.remaining c.args.input) (left_in g.B.Read.remaining c.sightings.reader.script) (left_in g.B.Read.remaining c.next.new.self.script) i.0 c.in_ok-end.field-0 _ _ P Q alike i.2
-    (subst (λ o. NextSeen (left_in g.B.Read.remaining c.sightings.reader.script) (left_in g.B.Read.remaining c.next.new.self.script) (Ok o)) c.in_default.is c.in_ok-marked.ensures.next)
-    c.in_ok-first_told.ensures (c.in_ok-end.ensures.first Q [] i.0 (i.1 Q c.in_ok-watch.ensures))
-    (c.warning_behind.ensures i.0 i.3)
-
-pub returns-clause-first : goal.returns-clause-first
-returns-clause-first g c P reached =
-    let i = c.sightings.invariant in
-    let v = c.args.normal.now in
-    let Q : Description = described c.setup.result (tables_say v.tables) in
-    let alike = set_up_alike v c.setup.result P c.setup.ensures.normal c.setup.ensures.parts c.setup.result.own_address reached in
-    first_all (g.B.Read.remaining c.args.input) (left_in g.B.Read.remaining c.sightings.reader.script) (left_in g.B.Read.remaining c.next.new.self.script) i.0 c.in_ok-end.field-0 _ P Q alike i.2
-    (subst (λ o. NextSeen (left_in g.B.Read.remaining c.sightings.reader.script) (left_in g.B.Read.remaining c.next.new.self.script) (Ok o)) c.in_default.is c.in_ok-marked.ensures.next)
-    c.in_ok-first_told.ensures (c.in_ok-end.ensures.first Q [] i.0 (i.1 Q c.in_ok-watch.ensures))
-
-pub returns-in_err-see-clause-refused : goal.returns-in_err-see-clause-refused
-returns-in_err-see-clause-refused g c =
-    let i = c.sightings.invariant in
-    let Q : Description = described c.setup.result (tables_say c.args.normal.now.tables) in
-    let r = c.from_residual-in_err-see in
-    let p = err_from_is_err_and r.result r.ensures.1 in
-    rw (p.1, p.2) (watch_refused (g.B.Read.remaining c.args.input) (left_in g.B.Read.remaining c.next.new.self.script) (i.0 ++ c.in-Some.marked ∷ []) _
-    (read_more (g.B.Read.remaining c.args.input) (left_in g.B.Read.remaining c.sightings.reader.script) (left_in g.B.Read.remaining c.next.new.self.script) i.0 c.in-Some.marked i.2
-    (subst (λ o. NextSeen (left_in g.B.Read.remaining c.sightings.reader.script) (left_in g.B.Read.remaining c.next.new.self.script) (Ok o)) c.in-Some.is c.in_ok-marked.ensures.next))
-    (λ same. c.in_err-see.ensures.refused same Q [] i.0 (i.1 Q c.in_ok-watch.ensures)))
-
-pub returns-in_err-end-clause-refused : goal.returns-in_err-end-clause-refused
-returns-in_err-end-clause-refused g c =
-    let i = c.sightings.invariant in
-    let Q : Description = described c.setup.result (tables_say c.args.normal.now.tables) in
-    let r = c.from_residual-in_err-end in
-    let p = err_from_is_err_and r.result r.ensures.1 in
-    rw (p.1, p.2) (watch_refused (g.B.Read.remaining c.args.input) (left_in g.B.Read.remaining c.sightings.reader.script) i.0 _ i.2
-    (λ same. c.in_err-end.ensures.refused same Q [] i.0 (i.1 Q c.in_ok-watch.ensures)))
+    rw (p.1, p.2) (of_script (g.B.Read.remaining c.args.input) all (λ said. AreNoRecording said _) c.new-reader.ensures.reads
+    (rest_refused all (left_in g.B.Read.remaining c.judge_first.new.reader.script) c.judge_first.new.reader.silence _ _ c.in_ok-first.ensures.judged
+    c.in_err-others.ensures.refused.0 c.in_err-others.ensures.refused.1))

@@ -1,86 +1,32 @@
-use Rattle.std.proofs.Common.{◌++◌, ◌∷◌, [], Ok, subst}
 use Rattle.std.proofs.lemmas.Result.{err_from_is_err_and}
 use Rattle.bus_legal.specs.Description.{Description}
 use Rattle.bus_legal.specs.Parts.{description_in}
-use Rattle.bus_legal.specs.Tables.{tables_say}
-use Rattle.bus_legal.proofs.NormalLaws.{set_up_normal}
-use Rattle.rt1553.proofs.EngineLaws.{AnswersAlike, set_up_alike}
+use Rattle.rt1553.proofs.EngineLaws.{AnswersAlike}
 use Rattle.rt1553_verify.specs.Reader.{left_in}
-use Rattle.recorded_terminal.specs.Judged.{CanBegin, WatchesLater}
-use Rattle.script_recordings.specs.inner.Reads.{NextSeen}
-use Rattle.script_recordings.proofs.ReadLaws.{read_none, read_more, read_fault, watch_refused}
-use Rattle.script_recordings.proofs.SinceLaws.{can_begin, judged_all, never_all}
+use Rattle.script_recordings.specs.Seen.{AreNoRecording}
+use Rattle.script_recordings.proofs.ReadLaws.{of_script}
+use Rattle.script_recordings.proofs.SinceLaws.{normal_alike, never_told}
+use Rattle.script_recordings.proofs.PartLaws.{rest_refused, judged_since}
 use Rattle.script_recordings.proofs.explaining.watch_since.Goals as goal
-
-pub sightings-init : goal.sightings-init
-sightings-init g c = ([], λ Q w. w, read_none (g.B.Read.remaining c.args.input) (left_in g.B.Read.remaining c.new-reader.result.script) c.new-reader.ensures.reads, c.new-tally.ensures)
-
-pub sightings-preserved : goal.sightings-preserved
-sightings-preserved g c =
-    let i = c.sightings.invariant in (
-      i.0 ++ c.in-Some.marked ∷ [],
-      λ Q w. c.in_ok-see.ensures.sees Q i.0 (i.1 Q w),
-      read_more (g.B.Read.remaining c.args.input) (left_in g.B.Read.remaining c.sightings.reader.script) (left_in g.B.Read.remaining c.next.new.self.script) i.0 c.in-Some.marked i.2
-          (subst (λ o. NextSeen (left_in g.B.Read.remaining c.sightings.reader.script) (left_in g.B.Read.remaining c.next.new.self.script) (Ok o)) c.in-Some.is c.in_ok-marked.ensures.next),
-      c.in_ok-take.ensures i.0 i.3,
-    )
-
-pub returns-in_err-marked-clause-refused : goal.returns-in_err-marked-clause-refused
-returns-in_err-marked-clause-refused g c =
-    let i = c.sightings.invariant in
-    let r = c.from_residual-in_err-marked in
-    let p = err_from_is_err_and r.result r.ensures.1 in
-    rw (p.1, p.2) (read_fault (g.B.Read.remaining c.args.input) (left_in g.B.Read.remaining c.sightings.reader.script) (left_in g.B.Read.remaining c.next.new.self.script) i.0 _ i.2
-    c.in_err-marked.ensures.next)
 
 pub returns-clause-judged : goal.returns-clause-judged
 returns-clause-judged g c =
-    let i = c.sightings.invariant in
-    let v = c.args.normal.now in
-    let D : Description = description_in v in
-    let watched =
-    i.1 D (subst (λ D. CanBegin D → WatchesLater (λ normal. tables_say normal.tables) D [] c.in_ok-watch.watch) (set_up_normal v c.setup.result c.setup.ensures.parts) c.in_ok-watch.ensures (can_begin v c.setup.ensures.normal)) in
-    judged_all (g.B.Read.remaining c.args.input) (left_in g.B.Read.remaining c.sightings.reader.script) (left_in g.B.Read.remaining c.next.new.self.script) i.0 c.in_ok-end.field-0
-    c.in_ok-judged.judged.after c.in_ok-judged.judged.first c.in_ok-judged.judged.warning D i.2
-    (subst (λ o. NextSeen (left_in g.B.Read.remaining c.sightings.reader.script) (left_in g.B.Read.remaining c.next.new.self.script) (Ok o)) c.in_default.is c.in_ok-marked.ensures.next)
-    c.in_ok-judged.ensures.told (c.in_ok-end.ensures.judged D i.0 watched) (c.in_ok-judged.ensures.warned i.0 i.3)
+    judged_since (description_in c.args.normal.now) (g.B.Read.remaining c.args.input) (left_in g.B.Read.remaining c.new-reader.result.script) (left_in g.B.Read.remaining c.judge_later.new.reader.script)
+    c.judge_later.new.reader.silence c.in_ok-first.first c.in_ok-others.others c.then-told.result c.in_ok-others.silences c.new-reader.ensures.reads
+    c.in_ok-first.ensures.judged c.in_ok-others.ensures.judged c.then-told.ensures
 
 pub returns-clause-never : goal.returns-clause-never
 returns-clause-never g c P reached =
-    let i = c.sightings.invariant in
     let v = c.args.normal.now in
     let D : Description = description_in v in
-    let watched =
-    i.1 D (subst (λ D. CanBegin D → WatchesLater (λ normal. tables_say normal.tables) D [] c.in_ok-watch.watch) (set_up_normal v c.setup.result c.setup.ensures.parts) c.in_ok-watch.ensures (can_begin v c.setup.ensures.normal)) in
-    let alike : AnswersAlike D P =
-    subst (λ Q. AnswersAlike Q P) (set_up_normal v c.setup.result c.setup.ensures.parts) (set_up_alike v c.setup.result P c.setup.ensures.normal c.setup.ensures.parts c.setup.result.own_address reached) in
-    never_all (g.B.Read.remaining c.args.input) (left_in g.B.Read.remaining c.sightings.reader.script) (left_in g.B.Read.remaining c.next.new.self.script) i.0 c.in_ok-end.field-0
-    c.in_ok-judged.judged.after c.in_ok-judged.judged.first D P alike i.2
-    (subst (λ o. NextSeen (left_in g.B.Read.remaining c.sightings.reader.script) (left_in g.B.Read.remaining c.next.new.self.script) (Ok o)) c.in_default.is c.in_ok-marked.ensures.next)
-    c.in_ok-judged.ensures.told (c.in_ok-end.ensures.judged D i.0 watched)
+    let alike : AnswersAlike D P = normal_alike v P c.in_ok-first.ensures.normal reached in
+    never_told D P alike (g.B.Read.remaining c.args.input) c.then-told.result.after c.then-told.result.first c.then-told.result.warning c.in_ok-others.silences (returns-clause-judged g c)
 
-pub returns-in_err-see-clause-refused : goal.returns-in_err-see-clause-refused
-returns-in_err-see-clause-refused g c =
-    let i = c.sightings.invariant in
-    let v = c.args.normal.now in
-    let D : Description = description_in v in
-    let watched =
-    i.1 D (subst (λ D. CanBegin D → WatchesLater (λ normal. tables_say normal.tables) D [] c.in_ok-watch.watch) (set_up_normal v c.setup.result c.setup.ensures.parts) c.in_ok-watch.ensures (can_begin v c.setup.ensures.normal)) in
-    let r = c.from_residual-in_err-see in
+pub returns-in_err-others-clause-refused : goal.returns-in_err-others-clause-refused
+returns-in_err-others-clause-refused g c =
+    let all = left_in g.B.Read.remaining c.new-reader.result.script in
+    let r = c.from_residual-in_err-others in
     let p = err_from_is_err_and r.result r.ensures.1 in
-    rw (p.1, p.2) (watch_refused (g.B.Read.remaining c.args.input) (left_in g.B.Read.remaining c.next.new.self.script) (i.0 ++ c.in-Some.marked ∷ []) _
-    (read_more (g.B.Read.remaining c.args.input) (left_in g.B.Read.remaining c.sightings.reader.script) (left_in g.B.Read.remaining c.next.new.self.script) i.0 c.in-Some.marked i.2
-    (subst (λ o. NextSeen (left_in g.B.Read.remaining c.sightings.reader.script) (left_in g.B.Read.remaining c.next.new.self.script) (Ok o)) c.in-Some.is c.in_ok-marked.ensures.next))
-    (λ same. c.in_err-see.ensures.refused same D i.0 watched))
-
-pub returns-in_err-end-clause-refused : goal.returns-in_err-end-clause-refused
-returns-in_err-end-clause-refused g c =
-    let i = c.sightings.invariant in
-    let v = c.args.normal.now in
-    let D : Description = description_in v in
-    let watched =
-    i.1 D (subst (λ D. CanBegin D → WatchesLater (λ normal. tables_say normal.tables) D [] c.in_ok-watch.watch) (set_up_normal v c.setup.result c.setup.ensures.parts) c.in_ok-watch.ensures (can_begin v c.setup.ensures.normal)) in
-    let r = c.from_residual-in_err-end in
-    let p = err_from_is_err_and r.result r.ensures.1 in
-    rw (p.1, p.2) (watch_refused (g.B.Read.remaining c.args.input) (left_in g.B.Read.remaining c.sightings.reader.script) i.0 _ i.2
-    (λ same. c.in_err-end.ensures.refused same D i.0 watched))
+    rw (p.1, p.2) (of_script (g.B.Read.remaining c.args.input) all (λ said. AreNoRecording said _) c.new-reader.ensures.reads
+    (rest_refused all (left_in g.B.Read.remaining c.judge_later.new.reader.script) c.judge_later.new.reader.silence _ _ c.in_ok-first.ensures.judged
+    c.in_err-others.ensures.refused.0 c.in_err-others.ensures.refused.1))

@@ -9,7 +9,7 @@ returns-clause-next g c =
     next_unseen (left_in g.B.Read.remaining c.args.self.now.script) (left_in g.B.Read.remaining c.next.new.self) (left_in g.B.Read.remaining c.refuse_rest.new.script)
     c.in-Some.stated c.in-Err.fault c.refuse_rest.result
     (subst (λ o. NextIs (left_in g.B.Read.remaining c.args.self.now.script) (left_in g.B.Read.remaining c.next.new.self) (Ok o)) c.in-Some.is c.in_ok-stated.ensures.next)
-    c.in-Err.ensures.refused c.refuse_rest.ensures
+    (sym c.is_silence.ensures ∙ c.if-is_silence.false) c.in-Err.ensures.refused c.refuse_rest.ensures
 
 pub returns-in-Ok-clause-message : goal.returns-in-Ok-clause-message
 returns-in-Ok-clause-message g c =

@@ -1,0 +1,54 @@
+-- What is told of a part of a recording, and of parts one after the other.
+use Rattle.std.specs.Prelude.{ℕ, ◌≡◌, Option, Some, None, Ok, List, [], drop, length}
+use Rattle.bus_legal.specs.Description.{Description}
+use Rattle.terminal_recordings.specs.MaybeGaps.{MaybeSighting}
+use Rattle.recorded_terminal.specs.declared.later.FreshPart.{FreshPart}
+use Rattle.recorded_terminal.specs.declared.watch.Marked.{Marked}
+use Rattle.recorded_terminal.specs.Marks.{maybe_in}
+use Rattle.rt1553_verify.specs.declared.stated.ScriptWarning.{ScriptWarning}
+use Rattle.rt1553_verify.specs.declared.stated.ScriptWarning.TheVariants.{NoEvent, NoAnswer}
+use Rattle.rt1553_verify.specs.Stated.{StatedEvent}
+use Rattle.script_recordings.specs.declared.explaining.PartTold.{PartTold}
+use Rattle.script_recordings.specs.Parts.{split_parts}
+use Rattle.script_recordings.specs.Seen.{recorded_warning}
+use Rattle.script_recordings.specs.Explained.{first_some, told_first, IsJudgedFirst, IsJudgedLater, AreJudgedLater}
+use Rattle.script_recordings.specs.inner.Reads.{Left}
+
+-- why what is judged of two parts shows nothing, by the same of each
+abbrev pub joined_warning : Option ScriptWarning → Option ScriptWarning → Option ScriptWarning
+joined_warning None other = None
+joined_warning (Some NoEvent) other = other
+joined_warning (Some NoAnswer) None = None
+joined_warning (Some NoAnswer) (Some other) = Some NoAnswer
+
+-- what is judged of a part
+abbrev pub judged_of : Option FreshPart → List Marked → List MaybeSighting
+judged_of None ms = []
+judged_of (Some it) ms = maybe_in (drop it.before ms)
+
+-- nothing is told
+abbrev pub TellsNone : PartTold → Type 0
+TellsNone t = (t.after ≡ None) × (t.first ≡ None) × (t.warning ≡ recorded_warning [])
+
+-- what is told of parts and then of others
+abbrev pub TellsThen : PartTold → PartTold → PartTold → Type 0
+TellsThen t others all =
+    (all.after ≡ first_some t.after others.after) × (all.first ≡ first_some t.first others.first) × (all.warning ≡ joined_warning t.warning others.warning)
+
+-- this is told of a part, from power-up
+abbrev pub IsToldFirst : Description → List StatedEvent → PartTold → Type 0
+IsToldFirst P events t = (recording : List MaybeSighting) × IsJudgedFirst P events (told_first t.first) recording × (t.after ≡ None) × (t.warning ≡ recorded_warning recording)
+
+-- of one that began at any time
+abbrev pub IsToldLater : Description → List StatedEvent → PartTold → Type 0
+IsToldLater D events t = (judged : List MaybeSighting) × IsJudgedLater D events t.after (told_first t.first) judged × (t.warning ≡ recorded_warning judged)
+
+-- of parts one after the other
+abbrev pub ArePartsTold : Description → List (List StatedEvent) → PartTold → Type 0
+ArePartsTold D parts t = (judged : List MaybeSighting) × AreJudgedLater D parts t.after (told_first t.first) judged × (t.warning ≡ recorded_warning judged)
+
+-- of so many parts behind one that ended: none, if it ended with the script
+abbrev pub AreOthersTold : Description → Left → Option ℕ → PartTold → ℕ → Type 0
+AreOthersTold D left None t n = ArePartsTold D [] t × (n ≡ 0)
+AreOthersTold D None (Some line) t n = Unit {0}
+AreOthersTold D (Some said) (Some line) t n = (events : List StatedEvent) × (said ≡ Ok events) × ArePartsTold D (split_parts events) t × (length (split_parts events) ≡ n)
