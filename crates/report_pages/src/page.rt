@@ -11,9 +11,9 @@ use drawing_boxes::push_escaped;
 use message_names::quoted;
 use rt1553_draw::{MOST_STATED, push_front, push_keys};
 use rt1553_report::{
-    AnswerNames, FileDigests, NamesTable, ReplyDifference, ReportHead, Scope, ScopeRow,
+    Beside, DifferenceNotes, FileDigests, NamesTable, ReplyDifference, ReportHead, Scope, ScopeRow,
     ScriptOutcome, ScriptResult, Totals, TriedScript, UnitVerdict, Wording, answer_told,
-    clause_rows, name_at, push_digest, push_markup, push_shown, result_word, slot_fault, totals_of,
+    clause_rows, push_digest, push_markup, push_shown, result_word, slot_fault, totals_of,
 };
 use rt1553_verify::WrongAnswer;
 use std::alloc::{AllocError, Global};
@@ -456,18 +456,17 @@ fn wrong_headings(wording: Wording) -> (&'static str, &'static str) {
 }
 
 /// Writes the head of the table of events.
-fn push_wrong_head(
-    page: &mut String,
-    wording: Wording,
-    has_names: bool,
-    has_rules: bool,
-) -> Result<(), AllocError> {
-    let (rule, answers) = wrong_headings(wording);
+fn push_wrong_head(page: &mut String, notes: &DifferenceNotes) -> Result<(), AllocError> {
+    let (rule, answers) = wrong_headings(notes.wording);
     page.push_str("<table>\n<thead><tr><th scope=\"col\">line</th>")?;
-    if has_names {
+    if has_messages(notes) {
         page.push_str("<th scope=\"col\">message</th>")?;
     }
-    page.push_str(if has_rules { rule } else { "" })?;
+    page.push_str(if notes.rules.names.is_empty() {
+        ""
+    } else {
+        rule
+    })?;
     page.push_str(answers)
 }
 
@@ -480,36 +479,58 @@ fn push_name_field(alloc: Global, page: &mut String, name: Option<&str>) -> Resu
     page.push_str("</td>")
 }
 
-/// Writes the name of the message of an event, where there are names.
-fn push_message(
-    alloc: Global,
-    page: &mut String,
-    names: &Option<AnswerNames>,
-    index: usize,
-) -> Result<(), AllocError> {
-    if names.is_none() {
-        return Ok(());
-    }
-    push_name_field(alloc, page, name_at(names, index))
-}
-
-/// Writes the rule under which an event stands, or its time, where there are any.
-fn push_rule(page: &mut String, rules: &AnswerNames, index: usize) -> Result<(), AllocError> {
-    if rules.names.is_empty() {
-        return Ok(());
-    }
+/// Writes a field.
+fn push_field(page: &mut String, field: &str) -> Result<(), AllocError> {
     page.push_str("<td>")?;
-    push_escaped(page, rules.at(index).unwrap_or(""))?;
+    push_escaped(page, field)?;
     page.push_str("</td>")
 }
 
+/// Whether the message of each event has a field: where there are names, and in a recording.
+fn has_messages(notes: &DifferenceNotes) -> bool {
+    notes.names.is_some() || notes.wording == Wording::Recording
+}
+
+/// Writes the name of the message of an event, or in a recording the message, where it has no name.
+fn push_message(
+    alloc: Global,
+    page: &mut String,
+    notes: &DifferenceNotes,
+    beside: Beside<'_>,
+) -> Result<(), AllocError> {
+    match (beside.name, beside.message) {
+        _ if !has_messages(notes) => Ok(()),
+        (None, Some(message)) => push_field(page, message),
+        (name, _) => push_name_field(alloc, page, name),
+    }
+}
+
+/// Writes the rule under which an event stands, or its time, where there are any.
+fn push_rule(
+    page: &mut String,
+    notes: &DifferenceNotes,
+    beside: Beside<'_>,
+) -> Result<(), AllocError> {
+    if notes.rules.names.is_empty() {
+        return Ok(());
+    }
+    push_field(page, beside.rule.unwrap_or(""))
+}
+
 /// Writes what is wrong with a unit, where a recording tells it.
-fn push_fault(page: &mut String, wording: Wording, one: &WrongAnswer) -> Result<(), AllocError> {
+fn push_fault(
+    alloc: Global,
+    page: &mut String,
+    wording: Wording,
+    one: &WrongAnswer,
+    is_late: bool,
+) -> Result<(), AllocError> {
     match wording {
         Wording::Test => Ok(()),
         Wording::Recording => {
-            let fault = slot_fault(one.expected.as_slice(), one.came.as_slice());
-            write!(page, "<td>{fault}</td>")
+            let (recorded, sent) = (one.expected.as_slice(), one.came.as_slice());
+            let fault = slot_fault(alloc, recorded, sent, is_late)?;
+            push_field(page, fault.as_str())
         }
     }
 }
@@ -519,16 +540,15 @@ fn push_wrong(
     alloc: Global,
     page: &mut String,
     wrong: &[WrongAnswer],
-    wording: Wording,
-    names: &Option<AnswerNames>,
-    rules: &AnswerNames,
+    notes: &DifferenceNotes,
 ) -> Result<(), AllocError> {
-    push_wrong_head(page, wording, names.is_some(), !rules.names.is_empty())?;
+    push_wrong_head(page, notes)?;
     for (index, one) in wrong.iter().enumerate() {
+        let beside = notes.beside(index);
         write!(page, "<tr><td class=\"count\">{}</td>", one.line)?;
-        push_message(alloc, page, names, index)?;
-        push_rule(page, rules, index)?;
-        push_fault(page, wording, one)?;
+        push_message(alloc, page, notes, beside)?;
+        push_rule(page, notes, beside)?;
+        push_fault(alloc, page, notes.wording, one, beside.is_late)?;
         push_answer(alloc, page, one.expected.as_slice())?;
         push_answer(alloc, page, one.came.as_slice())?;
         page.push_str("</tr>\n")?;
@@ -651,9 +671,7 @@ fn push_result(alloc: Global, page: &mut String, of: &ScriptResult) -> Result<()
         ScriptOutcome::Played {
             answers,
             wrong,
-            wording,
-            names,
-            rules,
+            notes,
             drawing,
             ..
         } => {
@@ -662,7 +680,7 @@ fn push_result(alloc: Global, page: &mut String, of: &ScriptResult) -> Result<()
                 "<p>differences: {}; answers stated: {answers}</p>",
                 wrong.len()
             )?;
-            push_wrong(alloc, page, wrong.as_slice(), *wording, names, rules)?;
+            push_wrong(alloc, page, wrong.as_slice(), notes)?;
             push_drawing(page, wrong.len(), drawing)
         }
     }

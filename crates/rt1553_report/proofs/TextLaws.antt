@@ -28,3 +28,7 @@ piece_of_same r P {x} {y} old new e written = subst (λ z. OnOk r ((part : List 
 -- a text that was empty is all that was written
 pub all_written : {old new piece : List ℕ} → old ≡ [] → AddsPiece old new piece → new ≡ piece
 all_written {old} {new} {piece} empty added = added.is ∙ ap (λ t. t ++ piece) empty
+
+-- a text behind another one, if it could be written
+pub text_behind : {T E : Type 0} (r : Result T E) (old next new a b : List ℕ) → next ≡ old ++ a → OnOk r (new ≡ next ++ b) → OnOk r (new ≡ old ++ (a ++ b))
+text_behind r old next new a b first later = on_ok_weaker r (λ e. e ∙ (ap (λ t. t ++ b) first ∙ append_assoc old a b)) later

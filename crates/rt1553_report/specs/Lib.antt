@@ -1,6 +1,7 @@
 pub mod Unit
 pub mod Verdict
 pub mod Recorded
+pub mod Message
 pub mod Results
 pub mod Clauses
 pub mod Shown

@@ -12,7 +12,7 @@ use Rattle.rt1553_report.specs.declared.verdict.ScriptVerdict.{ScriptVerdict}
 -- the verdict on a script that was played, or on a unit: it fails if something was answered otherwise than stated, or if a result of the
 -- unit differs or is missing
 abbrev pub outcome_verdict : ScriptOutcome → Option ScriptVerdict
-outcome_verdict (Played answers unjudged wrong wording names rules drawing) = Some (verdict_of (length wrong.items == 0) unjudged)
+outcome_verdict (Played answers unjudged wrong notes drawing) = Some (verdict_of (length wrong.items == 0) unjudged)
 outcome_verdict (Judged unit) = Some (verdict_of (unit_passes unit) None)
 outcome_verdict (NotPlayed reason) = None
 
@@ -27,13 +27,13 @@ outcome_is_unjudged outcome = is_unjudged (outcome_verdict outcome)
 
 -- it was not played
 abbrev pub outcome_is_missing : ScriptOutcome → Bool
-outcome_is_missing (Played answers unjudged wrong wording names rules drawing) = false
+outcome_is_missing (Played answers unjudged wrong notes drawing) = false
 outcome_is_missing (Judged unit) = false
 outcome_is_missing (NotPlayed reason) = true
 
 -- how many answers it states, or exchanges the acceptance test has
 abbrev pub outcome_answers : ScriptOutcome → Option ℕ
-outcome_answers (Played answers unjudged wrong wording names rules drawing) = Some answers
+outcome_answers (Played answers unjudged wrong notes drawing) = Some answers
 outcome_answers (Judged unit) = Some unit.exchanges
 outcome_answers (NotPlayed reason) = None
 

@@ -4,9 +4,10 @@ ghost use Rattle.std.specs.String.{string_bytes};
 ghost use Rattle.ascii_json.specs.Ascii.{IsPlainText};
 ghost use Rattle.rt1553_report.specs.inner.Lines.{IsLineOf};
 
+use crate::fault::slot_fault;
 use crate::head::{ReportHead, digest_text};
-use crate::result::{AnswerNames, ScriptOutcome, ScriptResult};
-use crate::told::{Wording, answer_told, slot_fault};
+use crate::result::{AnswerNames, DifferenceNotes, ScriptOutcome, ScriptResult};
+use crate::told::{Wording, answer_told};
 use crate::unit::{ReplyDifference, UnitVerdict};
 use crate::verdict::result_word;
 use ascii_json::in_ascii;
@@ -36,10 +37,12 @@ struct RecordedEntry {
     /// The name of its message, null for none; left out where there are no names.
     #[serde(skip_serializing_if = "Option::is_none")]
     name: Option<Option<String>>,
+    /// Its message in the words of a test bench, null for none.
+    message: Option<String>,
     /// The text of the last comment before it, null for none: in the recording of a table, a time.
     time: Option<String>,
     /// What is wrong with the unit.
-    fault: &'static str,
+    fault: String,
     recorded: Option<String>,
     sends: Option<String>,
 }
@@ -138,17 +141,20 @@ fn name_entry(
     }
 }
 
-/// An event that was not answered as stated, with the name of its message, where there are names, and its rule or time.
+/// An event that was not answered as stated, with the name of its message, where there are names, and what is told beside it.
 fn wrong_entry(
     alloc: Global,
     one: &WrongAnswer,
-    wording: Wording,
-    name: Option<Option<String>>,
-    rule: Option<String>,
+    notes: &DifferenceNotes,
+    index: usize,
 ) -> Result<ReportedDifference, AllocError> {
-    let expected = answer_told(alloc, one.expected.as_slice())?;
-    let came = answer_told(alloc, one.came.as_slice())?;
-    Ok(match wording {
+    let beside = notes.beside(index);
+    let name = name_entry(alloc, &notes.names, index)?;
+    let rule = owned(alloc, beside.rule)?;
+    let (stated, answered) = (one.expected.as_slice(), one.came.as_slice());
+    let expected = answer_told(alloc, stated)?;
+    let came = answer_told(alloc, answered)?;
+    Ok(match notes.wording {
         Wording::Test => ReportedDifference::Answer(WrongEntry {
             line: one.line,
             name,
@@ -159,8 +165,9 @@ fn wrong_entry(
         Wording::Recording => ReportedDifference::Recorded(RecordedEntry {
             line: one.line,
             name,
+            message: owned(alloc, beside.message)?,
             time: rule,
-            fault: slot_fault(one.expected.as_slice(), one.came.as_slice()),
+            fault: slot_fault(alloc, stated, answered, beside.is_late)?,
             recorded: expected,
             sends: came,
         }),
@@ -171,15 +178,11 @@ fn wrong_entry(
 fn wrong_lines(
     alloc: Global,
     wrong: &[WrongAnswer],
-    wording: Wording,
-    names: &Option<AnswerNames>,
-    rules: &AnswerNames,
+    notes: &DifferenceNotes,
 ) -> Result<Vec<ReportedDifference>, AllocError> {
     let mut lines = Vec::new(alloc);
     for (index, one) in wrong.iter().enumerate() {
-        let name = name_entry(alloc, names, index)?;
-        let rule = owned(alloc, rules.at(index))?;
-        lines.push(wrong_entry(alloc, one, wording, name, rule)?)?;
+        lines.push(wrong_entry(alloc, one, notes, index)?)?;
     }
     Ok(lines)
 }
@@ -221,13 +224,7 @@ fn differences_of(
     outcome: &ScriptOutcome,
 ) -> Result<Vec<ReportedDifference>, AllocError> {
     match outcome {
-        ScriptOutcome::Played {
-            wrong,
-            wording,
-            names,
-            rules,
-            ..
-        } => wrong_lines(alloc, wrong.as_slice(), *wording, names, rules),
+        ScriptOutcome::Played { wrong, notes, .. } => wrong_lines(alloc, wrong.as_slice(), notes),
         ScriptOutcome::Judged(unit) => reply_lines(alloc, unit),
         ScriptOutcome::NotPlayed(_) => Ok(Vec::new(alloc)),
     }

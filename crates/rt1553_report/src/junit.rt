@@ -4,8 +4,8 @@ ghost use Rattle.rt1553_report.specs.Pieces.{AddsPiece};
 ghost use Rattle.rt1553_report.specs.Junit.{AreNamesProperties, AreSuiteProperties, IsJunitReport, IsJunitSuite, IsProperty, IsTimestamp, digest_properties, digest_property, some_digest};
 
 use crate::head::{FileDigests, NamesTable, ReportHead, push_digest};
-use crate::result::{AnswerNames, ScriptOutcome, ScriptResult, Totals, name_at, totals_of};
-use crate::told::{Wording, difference_told, push_markup, push_shown};
+use crate::result::{DifferenceNotes, ScriptOutcome, ScriptResult, Totals, totals_of};
+use crate::told::{difference_told, push_markup, push_shown};
 use crate::unit::{ReplyDifference, UnitVerdict};
 use drawing_boxes::push_escaped;
 use rt1553_verify::{NumberRange, WrongAnswer};
@@ -165,21 +165,13 @@ fn push_wrong(
     text: &mut String,
     file: &str,
     wrong: &[WrongAnswer],
-    wording: Wording,
-    names: &Option<AnswerNames>,
-    rules: &AnswerNames,
+    notes: &DifferenceNotes,
 ) -> Result<(), AllocError> {
     for (index, one) in wrong.iter().enumerate() {
         push_shown(alloc, text, file.as_bytes())?;
         write!(text, ":{}: ", one.line)?;
-        push_escaped(
-            text,
-            difference_told(alloc, one, wording, name_at(names, index))?.as_str(),
-        )?;
-        if let Some(rule) = rules.at(index) {
-            text.push_str(" # ")?;
-            push_escaped(text, rule)?;
-        }
+        let told = difference_told(alloc, one, notes.wording, notes.beside(index))?;
+        push_escaped(text, told.as_str())?;
         text.push_str("\n")?;
     }
     Ok(())
@@ -250,26 +242,12 @@ fn push_outcome(alloc: Global, text: &mut String, of: &ScriptResult) -> Result<(
             text.push_str("\"/>\n")
         }
         ScriptOutcome::Judged(unit) => push_unit(alloc, text, of.file.as_str(), unit),
-        ScriptOutcome::Played {
-            wrong,
-            wording,
-            names,
-            rules,
-            ..
-        } => {
+        ScriptOutcome::Played { wrong, notes, .. } => {
             if wrong.is_empty() {
                 return push_skipped(text, of);
             }
             write!(text, "<failure message=\"differences: {}\">", wrong.len())?;
-            push_wrong(
-                alloc,
-                text,
-                of.file.as_str(),
-                wrong.as_slice(),
-                *wording,
-                names,
-                rules,
-            )?;
+            push_wrong(alloc, text, of.file.as_str(), wrong.as_slice(), notes)?;
             text.push_str("</failure>\n")
         }
     }

@@ -3,7 +3,7 @@ ghost use Rattle.std.specs.Prelude.{◌≡◌, length, filter, option_map};
 ghost use Rattle.rt1553_report.specs.Results.{outcome_answers, outcome_fault, outcome_passes, outcome_fails, outcome_is_missing, outcome_is_unjudged, outcome_unit, outcome_verdict, totals_of};
 
 use crate::head::FileDigests;
-use crate::told::Wording;
+use crate::told::{Beside, Wording};
 use crate::unit::UnitVerdict;
 use crate::verdict::{ScriptVerdict, Unjudged, is_unjudged, verdict_fails, verdict_passes};
 use rt1553_verify::WrongAnswer;
@@ -32,6 +32,32 @@ pub fn name_at(names: &Option<AnswerNames>, index: usize) -> Option<&str> {
     }
 }
 
+/// In which words events that were not answered as stated are told, and what is told beside each.
+#[derive(Drop)]
+pub struct DifferenceNotes {
+    pub wording: Wording,
+    /// The name of the message of each, where there are names.
+    pub names: Option<AnswerNames>,
+    /// In a recording: the message of each, in the words of a test bench.
+    pub messages: AnswerNames,
+    /// The rule under which each stands, or its time in a recording: the text of the last comment before it.
+    pub rules: AnswerNames,
+    /// In a recording, of which one event is told: whether a reply came there too late.
+    pub is_late: bool,
+}
+
+impl DifferenceNotes {
+    /// What is told beside the event at this index, from 0.
+    pub fn beside(&self, index: usize) -> Beside<'_> {
+        Beside {
+            name: name_at(&self.names, index),
+            message: self.messages.at(index),
+            rule: self.rules.at(index),
+            is_late: self.is_late,
+        }
+    }
+}
+
 /// What came of a script.
 #[derive(Drop)]
 pub enum ScriptOutcome {
@@ -41,13 +67,9 @@ pub enum ScriptOutcome {
         answers: usize,
         /// Why nothing of it is judged, where nothing differs.
         unjudged: Option<Unjudged>,
-        /// Each event that was not answered as stated, and in which words that is told.
+        /// Each event that was not answered as stated, and how that is told.
         wrong: Vec<WrongAnswer>,
-        wording: Wording,
-        /// The name of the message of each of these events, where there are names.
-        names: Option<AnswerNames>,
-        /// The rule under which each of these events stands, or its time in a recording: the text of the last comment before it.
-        rules: AnswerNames,
+        notes: DifferenceNotes,
         /// The messages in which these events stand, drawn for a page: empty where there is nothing to draw, and None where there is too much.
         drawing: Option<String>,
     },

@@ -1,10 +1,10 @@
 //! How differences are told, and names.
-ghost use Rattle.std.specs.Prelude.{◌≡◌, ℕ, List, OnOk, option_map};
+ghost use Rattle.std.specs.Prelude.{ℕ, List, OnOk};
 ghost use Rattle.std.specs.String.{string_bytes};
 ghost use Rattle.rt1553_report.specs.Shown.{StandsFor};
 ghost use Rattle.rt1553_report.specs.Pieces.{AddsPiece};
-ghost use Rattle.rt1553_report.specs.Recorded.{is_status_line, slot_fault};
 
+use crate::fault::slot_fault;
 use drawing_boxes::push_escaped;
 use message_names::quoted;
 use rt1553_files::escaped;
@@ -37,68 +37,103 @@ pub enum Wording {
     Recording,
 }
 
-/// Whether a line of a transcript is that of a status word, as `A s 2800`, or of a data word; None for no line.
-fn is_status_line(line: &[u8]) -> Option<bool>
-    ensures { result ≡ is_status_line line.now }
-{
-    match line {
-        [_, _, kind, ..] => Some(*kind == b's'),
-        _ => None,
+/// What is told beside a difference.
+#[derive(Clone, Copy)]
+pub struct Beside<'a> {
+    /// The name of its message, if it has one.
+    pub name: Option<&'a str>,
+    /// In a recording: its message, in the words of a test bench.
+    pub message: Option<&'a str>,
+    /// The rule under which its event stands, or its time in a recording.
+    pub rule: Option<&'a str>,
+    /// In a recording: whether a reply came there too late.
+    pub is_late: bool,
+}
+
+/// Whether this is a decimal number.
+fn are_digits(text: &str) -> bool {
+    !text.is_empty() && text.chars().all(|c| c.is_ascii_digit())
+}
+
+/// Whether the text of a comment is a time: a number, with a fraction or without.
+fn is_time(text: &str) -> bool {
+    match text.split_once('.') {
+        Some((whole, fraction)) => are_digits(whole) && are_digits(fraction),
+        None => are_digits(text),
     }
 }
 
-/// What is wrong with a unit that sent one word, or none, where the terminal sends another, or none. Each is a line of a transcript, or
-/// empty.
-pub fn slot_fault(recorded: &[u8], sent: &[u8]) -> &'static str
-    ensures { result.now ≡ slot_fault (is_status_line recorded.now) (is_status_line sent.now) }
-{
-    match (is_status_line(recorded), is_status_line(sent)) {
-        (None, Some(true)) => "no reply",
-        (None, _) => "the reply is too short",
-        (Some(true), None) => "no reply is due",
-        (Some(false), None) => "the reply is too long",
-        (Some(true), Some(true)) => "another status word",
-        (Some(true), Some(false)) => "a status word in place of a data word",
-        (Some(false), Some(true)) => "a data word in place of a status word",
-        (Some(false), Some(false)) => "another data word",
-    }
-}
-
-/// Writes what was expected and what came, or what is wrong with a unit, what was recorded of it, and what the terminal sends.
-fn push_difference(
+/// Writes what was expected and what came.
+fn push_answers(
     alloc: Global,
     text: &mut String,
     wrong: &WrongAnswer,
-    wording: Wording,
+    words: (&str, &str),
 ) -> Result<(), AllocError> {
-    let (expected, came) = (wrong.expected.as_slice(), wrong.came.as_slice());
-    let (front, between) = match wording {
-        Wording::Test => ("expected ", ", came "),
-        Wording::Recording => {
-            text.push_str(slot_fault(expected, came))?;
-            (": recorded ", "; the terminal sends ")
+    text.push_str(words.0)?;
+    push_answer(alloc, text, wrong.expected.as_slice())?;
+    text.push_str(words.1)?;
+    push_answer(alloc, text, wrong.came.as_slice())
+}
+
+/// Writes behind a fault to which message it belongs, unless the name of that was told.
+fn push_message(text: &mut String, fault: &str, beside: Beside<'_>) -> Result<(), AllocError> {
+    match (beside.name, beside.message) {
+        (None, Some(message)) => {
+            text.push_str(if fault == "no reply" { " to " } else { ", in " })?;
+            text.push_str(message)
         }
-    };
-    text.push_str(front)?;
-    push_answer(alloc, text, expected)?;
-    text.push_str(between)?;
-    push_answer(alloc, text, came)
+        _ => Ok(()),
+    }
+}
+
+/// Writes what is wrong with a unit, in which message, and when.
+fn push_fault(
+    alloc: Global,
+    text: &mut String,
+    wrong: &WrongAnswer,
+    beside: Beside<'_>,
+) -> Result<(), AllocError> {
+    let (recorded, sent) = (wrong.expected.as_slice(), wrong.came.as_slice());
+    let fault = slot_fault(alloc, recorded, sent, beside.is_late)?;
+    text.push_str(fault.as_str())?;
+    push_message(text, fault.as_str(), beside)?;
+    match beside.rule {
+        Some(time) if is_time(time) => write!(text, " at {time}"),
+        _ => Ok(()),
+    }
+}
+
+/// Writes behind a difference the comment beside it, if there is one that was not told before.
+fn push_comment(text: &mut String, wording: Wording, rule: Option<&str>) -> Result<(), AllocError> {
+    match rule {
+        Some(rule) if wording == Wording::Test || !is_time(rule) => write!(text, " # {rule}"),
+        _ => Ok(()),
+    }
 }
 
 /// What follows the number of the line in which an event is not answered as stated: the name of its message, if it has one, and what
-/// differs. One line.
+/// differs; and what is told beside it. One line.
 pub fn difference_told(
     alloc: Global,
     wrong: &WrongAnswer,
     wording: Wording,
-    name: Option<&str>,
+    beside: Beside<'_>,
 ) -> Result<String, AllocError> {
     let mut text = String::new(alloc);
-    if let Some(name) = name {
+    if let Some(name) = beside.name {
         text.push_str(quoted(alloc, name)?.as_str())?;
         text.push_str(": ")?;
     }
-    push_difference(alloc, &mut text, wrong, wording)?;
+    let words = match wording {
+        Wording::Test => ("expected ", ", came "),
+        Wording::Recording => {
+            push_fault(alloc, &mut text, wrong, beside)?;
+            (": recorded ", "; the terminal sends ")
+        }
+    };
+    push_answers(alloc, &mut text, wrong, words)?;
+    push_comment(&mut text, wording, beside.rule)?;
     Ok(text)
 }
 
