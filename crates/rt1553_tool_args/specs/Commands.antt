@@ -216,6 +216,7 @@ Asks f (Witness asked) =
 Asks f (Monitor asked) =
     HasValue f (codes "table") asked.table.now × HasAddress f asked.address × HasOption f (codes "gap") asked.gap
     × HasOption f (codes "no-response") asked.no_response × HasOption f (codes "pause") asked.pause
+    × HasOption f (codes "after-reset") asked.after_reset × HasOption f (codes "after-self-test") asked.after_self_test
 Asks f (Coverage asked scripts) =
     HasValue f (codes "profile") asked.profile.now × (texts_of scripts.items ≡ all_values f (codes "script"))
     × (asked.expand ≡ is_given f (codes "expand")) × (asked.format ≡ coverage_format_of (first_value f (codes "format"))) × HasNames f asked.names

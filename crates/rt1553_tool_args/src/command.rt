@@ -128,6 +128,9 @@ pub struct AskedRecording<'a> {
     pub gap: Option<&'a str>,
     pub no_response: Option<&'a str>,
     pub pause: Option<&'a str>,
+    /// How long a unit may be silent behind a reset, and behind the start of a self test, in microseconds.
+    pub after_reset: Option<&'a str>,
+    pub after_self_test: Option<&'a str>,
 }
 
 /// What is asked for of what came in recordings.
@@ -570,6 +573,8 @@ fn recording_command<'a>(given: &ArgMatches<'a>) -> Result<ToolCommand<'a>, NoCo
         gap: given.get_str("gap"),
         no_response: given.get_str("no-response"),
         pause: given.get_str("pause"),
+        after_reset: given.get_str("after-reset"),
+        after_self_test: given.get_str("after-self-test"),
     }))
 }
 

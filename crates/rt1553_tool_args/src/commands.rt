@@ -227,7 +227,7 @@ const OF_VERIFY: [Argument; 12] = [
 
 const OF_ANSWERS: [Argument; 3] = [PROFILE, SCRIPT, EXPAND];
 
-const OF_RECORDING: [Argument; 5] = [
+const OF_RECORDING: [Argument; 7] = [
     Argument {
         id: "table",
         given: Occurrence::Once,
@@ -252,6 +252,18 @@ const OF_RECORDING: [Argument; 5] = [
         given: Occurrence::Value,
         value: "TIME",
         help: "a longer silence of both buses is a pause, in microseconds (default: 100)",
+    },
+    Argument {
+        id: "after-reset",
+        given: Occurrence::Value,
+        value: "TIME",
+        help: "so long behind a reset a missing reply convicts no unit, in microseconds (default: 5000)",
+    },
+    Argument {
+        id: "after-self-test",
+        given: Occurrence::Value,
+        value: "TIME",
+        help: "so long behind the start of a self test, in microseconds (default: 100000)",
     },
 ];
 

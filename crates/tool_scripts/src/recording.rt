@@ -23,7 +23,7 @@ fn silence(given: Option<&str>, default: u64) -> Result<u64, ToolFault> {
     match read_time(text.as_bytes()) {
         Some(time) => Ok(time.nanos),
         None => Err(ToolFault::Usage(
-            "--gap, --no-response and --pause are in microseconds, as 4.5",
+            "--gap, --no-response, --pause, --after-reset and --after-self-test are in microseconds, as 4.5",
         )),
     }
 }
@@ -40,6 +40,8 @@ fn setup_of(asked: AskedRecording<'_>) -> Result<RecordingSetup, ToolFault> {
         gap: silence(asked.gap, usual.gap)?,
         no_response: silence(asked.no_response, usual.no_response)?,
         pause,
+        after_reset: silence(asked.after_reset, usual.after_reset)?,
+        after_self_test: silence(asked.after_self_test, usual.after_self_test)?,
     })
 }
 

@@ -5,8 +5,6 @@ use Rattle.std.proofs.lemmas.List.{length-map}
 use Rattle.bus_legal.specs.Description.{Description}
 use Rattle.bus_legal.specs.Parts.{Parts, description_in}
 use Rattle.bus_legal.specs.Reach.{reach}
-use Rattle.terminal_recordings.specs.Recordings.{IsExplained}
-use Rattle.terminal_recordings.specs.MaybeGaps.{MaybeSighting, ExplainsReading}
 use Rattle.rt1553_verify.specs.Stated.{StatedEvent, shown, script_warning, stated_in, stated_warning, states_answer}
 use Rattle.rt1553_verify.specs.declared.stated.ScriptWarning.{ScriptWarning}
 use Rattle.rt1553_verify.specs.declared.stated.Stated.{Stated}
@@ -16,8 +14,7 @@ use Rattle.rt1553_report.specs.declared.verdict.ScriptVerdict.TheVariants.{Faile
 use Rattle.rt1553_verify.specs.declared.verifying.WrongAnswer.{WrongAnswer}
 use Rattle.rt1553_verify.specs.Verify.{ToldAnswer, told_answer, wrong_answers_from, by_script, on_bus_by_script}
 use Rattle.script_recordings.specs.declared.explaining.UnexplainedLine.{UnexplainedLine}
-use Rattle.script_recordings.specs.Explained.{told_first, IsJudgedSince, NothingExplains}
-use Rattle.script_recordings.specs.Seen.{StatesRecording, recorded_warning}
+use Rattle.script_recordings.specs.Explained.{told_first, IsJudgedFrom, IsJudgedSince, NothingExplains}
 use Rattle.rt1553_tool_args.specs.declared.command.ScriptKind.TheVariants.{Recording, LaterRecording}
 use Rattle.tool_verify.specs.Passing.{tells_nothing, scoped, test_kind, unjudged_by, unjudged_since, unjudged_test, SaysBy, SaysOf}
 
@@ -48,26 +45,6 @@ same_answers (s ∷ stated) = by_case (same_answers stated) (states_answer (show
 pub same_reason : (stated : List Stated) → unjudged_by (script_warning stated) ≡ unjudged_test (Ok (map shown stated))
 same_reason stated = λ j. unjudged_by (stated_warning (not (sym (length-map stated shown) j == 0)) (same_answers stated j))
 
-none_found : {F : Type 0} (first : Option F) → (is_none first ≡ true) ↔ (first ≡ None)
-none_found None = (λ e. refl, λ e. refl)
-none_found (Some x) = (λ e. absurd (cc), λ e. absurd (cc))
-
--- the verdict on a recording, by what is told of it
-pub says_recorded : {F : Type 0} (input : Option (List ℕ)) (first : Option F) (warning : Option ScriptWarning) (same : Bool) (unjudged : Option Unjudged) {G : Description → Type 0}
-    → ((P : Description) → G P → IfSome input (λ script. (recording : List MaybeSighting) × StatesRecording script recording × ((first ≡ None) ↔ ExplainsReading (IsExplained P) recording) × (warning ≡ recorded_warning recording)))
-    → same ≡ is_none first → unjudged ≡ unjudged_by warning → IfSome input (λ script. (P : Description) → G P → SaysBy Recording P script (verdict_of same unjudged))
-says_recorded None first warning same unjudged explained told why = tt
-says_recorded (Some script) first warning same unjudged explained told why = λ P reached.
-    let (recording, states, explains, warned) = explained P reached in
-    let found = none_found first in
-    record {
-      recording = recording;
-      states = states;
-      explained = same;
-      says = (λ t. explains.0 (found.0 (sym told ∙ t)), λ x. told ∙ found.1 (explains.1 x));
-      is = ap (verdict_of same) (why ∙ ap unjudged_by warned);
-    }
-
 -- nothing is told where no answer is wrong
 pub nothing_told : (wrong : List WrongAnswer) (told : List ToldAnswer) → map told_answer wrong ≡ told → (length wrong == 0) ≡ tells_nothing (Ok told)
 nothing_told [] told is = ap (λ l. tells_nothing (Ok l)) is
@@ -78,22 +55,36 @@ none_told : (first : Option UnexplainedLine) → is_none first ≡ is_none (told
 none_told None = refl
 none_told (Some line) = refl
 
+-- the verdict on a recording, by what is told of it
+pub says_recorded : (input : Option (List ℕ)) (value : Parts) (first : Option UnexplainedLine) (warning : Option ScriptWarning) (n : ℕ) (same : Bool) (unjudged : Option Unjudged)
+    → ((P : Description) → description_in value ≡ reach P → IfSome input (λ script. IsJudgedFrom P (description_in value) script (told_first first) warning n))
+    → same ≡ is_none first → unjudged ≡ unjudged_by warning → IfSome input (λ script. SaysOf Recording value script (verdict_of same unjudged))
+says_recorded None value first warning n same unjudged judged told why = tt
+says_recorded (Some script) value first warning n same unjudged judged told why = λ P reached. record {
+  told = told_first first;
+  warning = warning;
+  silences = n;
+  judged = subst (λ D. IsJudgedFrom P D script (told_first first) warning n) reached (judged P reached);
+  is = λ j. verdict_of ((told ∙ none_told first) j) (why j);
+}
+
 -- what does not differ does not fail
 no_failure : (unjudged : Option Unjudged) → verdict_of true unjudged ≡ Failed → ⊥
 no_failure None e = absurd (cc)
 no_failure (Some why) e = absurd (cc)
 
 -- the verdict on a recording that began at any time
-pub says_later : (input : Option (List ℕ)) (value : Parts) (after : Option ℕ) (warning : Option ScriptWarning) (first : Option UnexplainedLine) (same : Bool) (unjudged : Option Unjudged) →
-    IfSome input (λ script. IsJudgedSince (description_in value) script after (told_first first) warning) →
+pub says_later : (input : Option (List ℕ)) (value : Parts) (after : Option ℕ) (warning : Option ScriptWarning) (n : ℕ) (first : Option UnexplainedLine) (same : Bool) (unjudged : Option Unjudged) →
+    IfSome input (λ script. IsJudgedSince (description_in value) script after (told_first first) warning n) →
     ((P : Description) → description_in value ≡ reach P → IfSome first (λ line. IfSome input (λ script. NothingExplains P script))) →
     same ≡ is_none first → unjudged ≡ unjudged_since after warning → IfSome input (λ script. SaysOf LaterRecording value script (verdict_of same unjudged))
-says_later None value after warning first same unjudged judged never told why = tt
-says_later (Some script) value after warning first same unjudged judged never told why = λ P reached. record {
+says_later None value after warning n first same unjudged judged never told why = tt
+says_later (Some script) value after warning n first same unjudged judged never told why = λ P reached. record {
   after = after;
   told = told_first first;
   warning = warning;
-  judged = subst (λ D. IsJudgedSince D script after (told_first first) warning) reached judged;
+  silences = n;
+  judged = subst (λ D. IsJudgedSince D script after (told_first first) warning n) reached judged;
   is = λ j. verdict_of ((told ∙ none_told first) j) (why j);
   never = λ fails. by P first refl fails (never P reached);
 }

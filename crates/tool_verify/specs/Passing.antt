@@ -1,16 +1,13 @@
 -- The verdict on a script: it passes, or fails, or nothing of it is judged; and the status of one that is refused.
-use Rattle.std.specs.Prelude.{ℕ, ◌≤◌, ◌==◌, Option, Some, None, is_none, option_map, ◌≡◌, ◌↔◌, ◌⊎◌, Bool, true, false, not, if◌then◌else◌, List, [], ◌∷◌, map, filter, length, Result, Ok, Err}
+use Rattle.std.specs.Prelude.{ℕ, ◌≤◌, ◌==◌, Option, Some, None, is_none, option_map, ◌≡◌, ◌⊎◌, Bool, true, false, not, if◌then◌else◌, List, [], ◌∷◌, map, filter, length, Result, Ok, Err}
 use Rattle.bus_legal.specs.Description.{Description}
 use Rattle.bus_legal.specs.Parts.{Parts, description_in}
 use Rattle.bus_legal.specs.Reach.{reach}
 use Rattle.terminal_rules.specs.declared.event.Event.{Event}
-use Rattle.terminal_recordings.specs.Recordings.{IsExplained}
-use Rattle.terminal_recordings.specs.MaybeGaps.{MaybeSighting, ExplainsReading}
 use Rattle.rt1553_verify.specs.Stated.{StatedEvent, seen_on_bus, stated_in, states_answer, stated_warning}
 use Rattle.rt1553_verify.specs.Verify.{ToldAnswer, verified, verified_on_bus}
 use Rattle.script_lines.specs.EventLine.{script_text}
-use Rattle.script_recordings.specs.Explained.{IsJudgedSince, NothingExplains, IsWitness, IsLaterWitness, HasNoPart}
-use Rattle.script_recordings.specs.Seen.{StatesRecording, recorded_warning}
+use Rattle.script_recordings.specs.Explained.{IsJudgedFrom, IsJudgedSince, NothingExplains, IsWitness, IsLaterWitness, HasNoPart}
 use Rattle.script_recordings.specs.declared.reading.RecordingFault.{RecordingFault}
 use Rattle.script_recordings.specs.declared.reading.RecordingFault.TheVariants as recording
 use Rattle.rt1553_verify.specs.declared.stated.ScriptWarning.{ScriptWarning}
@@ -78,23 +75,24 @@ abbrev pub unjudged_since : Option ℕ → Option ScriptWarning → Option Unjud
 unjudged_since None warning = Some NoPart
 unjudged_since (Some line) warning = unjudged_by warning
 
--- The verdict on a recording, for the terminal of P: it fails exactly if nothing explains it. What is explained passes, if a word was sent in
--- it; else nothing of it is judged.
+-- The verdict on a recording, for the terminal of P: it fails exactly if nothing explains one of its parts. What is explained passes, if a word was
+-- sent in what is judged; else nothing of it is.
 pub record SaysRecorded (P : Description) (script : List ℕ) (verdict : ScriptVerdict) : Type 0 where
-  pub recording : List MaybeSighting
-  pub states : StatesRecording script recording
-  pub explained : Bool
-  pub says : (explained ≡ true) ↔ ExplainsReading (IsExplained P) recording
-  pub is : verdict ≡ verdict_of explained (unjudged_by (recorded_warning recording))
+  pub told : Option ToldAnswer
+  pub warning : Option ScriptWarning
+  pub silences : ℕ
+  pub judged : IsJudgedFrom P (reach P) script told warning silences
+  pub is : verdict ≡ verdict_of (is_none told) (unjudged_by warning)
 
--- The verdict on a recording that began at any time, for the terminal of P, by what of P can be reached. It fails exactly if the part that
--- is judged is not explained, whatever came before; then nothing explains the recording, whenever it began. Without such a part, or a word
+-- The verdict on a recording that began at any time, for the terminal of P, by what of P can be reached. It fails exactly if what is judged of one of
+-- its parts is not explained, whatever came before; then nothing explains that part, whenever it began. Without such a part, or a word
 -- that was sent in it, nothing is judged.
 pub record SaysSince (P : Description) (script : List ℕ) (verdict : ScriptVerdict) : Type 0 where
   pub after : Option ℕ
   pub told : Option ToldAnswer
   pub warning : Option ScriptWarning
-  pub judged : IsJudgedSince (reach P) script after told warning
+  pub silences : ℕ
+  pub judged : IsJudgedSince (reach P) script after told warning silences
   pub is : verdict ≡ verdict_of (is_none told) (unjudged_since after warning)
   pub never : verdict ≡ Failed → NothingExplains P script
 

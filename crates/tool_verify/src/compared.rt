@@ -30,6 +30,8 @@ pub struct Compared {
     pub unjudged: Option<Unjudged>,
     /// Of a recording that began at any time: the line of the slot after which its part comes that is judged.
     pub after: Option<u64>,
+    /// Of a recording: in how many of its slots the unit may have been silent. What it did behind each is not judged up to the next pause.
+    pub silences: u64,
     pub wrong: Vec<WrongAnswer>,
     /// The command word of the message to which each event belongs that was answered otherwise.
     pub commands: Vec<Option<u16>>,
@@ -133,6 +135,7 @@ fn compare_test(
         answers,
         unjudged,
         after: None,
+        silences: 0,
         wrong,
         commands,
     })
@@ -144,6 +147,7 @@ fn compared_recording(
     answers: usize,
     unjudged: Option<Unjudged>,
     after: Option<u64>,
+    silences: u64,
     first: Option<UnexplainedLine>,
 ) -> Result<Compared, AllocError>
     ensures told { IfOk result (λ it. (length it.wrong.items == 0) ≡ is_none first) }
@@ -158,6 +162,7 @@ fn compared_recording(
         answers,
         unjudged,
         after,
+        silences,
         wrong,
         commands,
     })
@@ -173,10 +178,12 @@ pub fn compare_recording<B: BufRead + Drop>(
 {
     let Explained {
         answers,
+        silences,
         warning,
         first,
     } = watch_recording(alloc, normal, input)?;
-    let it = compared_recording(alloc, answers, unjudged_by(warning), None, first)?;
+    let unjudged = unjudged_by(warning);
+    let it = compared_recording(alloc, answers, unjudged, None, silences, first)?;
     Ok(it)
 }
 
@@ -190,12 +197,13 @@ pub fn compare_later<B: BufRead + Drop>(
 {
     let ExplainedSince {
         answers,
+        silences,
         warning,
         after,
         first,
     } = watch_since(alloc, normal, input)?;
     let unjudged = unjudged_since(after, warning);
-    let it = compared_recording(alloc, answers, unjudged, after, first)?;
+    let it = compared_recording(alloc, answers, unjudged, after, silences, first)?;
     Ok(it)
 }
 

@@ -6,7 +6,7 @@ use crate::warned::warn_of_hand_overs;
 use inferred_profiles::{Unseen, infer};
 use rt1553_tool_args::AskedProfile;
 use rt1553_verify::ScriptWarning;
-use script_recordings::read_recording;
+use script_recordings::{RecordingFault, read_recording};
 use std::io::Write;
 use std::rt::Files;
 use tool_files::{DIFFERENT, ToolFault, load_script, shown, write_bytes};
@@ -48,7 +48,11 @@ pub fn infer_profile<R: Files + AllocGlobal + Eprint, W: Write>(
         marked.line = script.line_in_file(marked.line);
     }
     warn_of_hand_overs(rt, asked.script, script.text.as_slice())?;
-    let Some(text) = infer(rt.alloc(), asked.address, unseen, recording.as_slice())? else {
+    let found = match infer(rt.alloc(), asked.address, unseen, recording.as_slice()) {
+        Ok(found) => found,
+        Err(fault) => return Err(recording_fault(rt, asked.script, &script, RecordingFault::from(fault))),
+    };
+    let Some(text) = found else {
         let states_word = recording.iter().any(|it| it.sighting.sent.is_some());
         tell_none(rt, asked.script, states_word)?;
         return Ok(DIFFERENT);

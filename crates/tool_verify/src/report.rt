@@ -6,25 +6,30 @@ ghost use Rattle.tool_verify.specs.Passing.{HasVerdict};
 ghost use Rattle.tool_verify.specs.Digests.{HasScriptDigest};
 ghost use Rattle.tool_verify.specs.inner.Tried.{IsTried};
 
+use crate::compared::{ScriptFault, explaining_script};
 use crate::head::{head_of, profile_digests};
 use crate::opened::OpenScript;
 use crate::verify::{Played, PlayedScript, PlayedTo, clauses_of, joined_status, play_script};
 use ascii_json::json_line;
 use bus_legal::Normal;
 use drawing_boxes::DrawFault;
+use line_format::after;
 use message_names::MessageNames;
 use report_pages::results_page;
 use rt1553_draw::{DrawnScript, StatedAnswer, draw_stated};
 use rt1553_report::{
-    FileDigests, ReportHead, ScriptOutcome, ScriptResult, answer_told, clauses_in, junit_report,
-    result_json,
+    FileDigests, ReportHead, ScriptOutcome, ScriptResult, Wording, answer_told, clauses_in,
+    junit_report, result_json,
 };
-use rt1553_tool_args::{AskedReport, Profiles, ReportFormat};
-use rt1553_verify::{WrongAnswer, named};
+use rt1553_tool_args::{AskedReport, Profiles, ReportFormat, ScriptKind};
+use rt1553_verify::{StatedFault, WrongAnswer, named};
+use script_lines::read_event;
+use script_recordings::RecordingFault;
 use std::alloc::{AllocError, Global};
 use std::format;
 use std::io::{Read, Write};
 use std::rt::Files;
+use terminal_rules::Event;
 use tool_files::{
     DIFFERENT, HashedReader, LoadedScript, ToolFault, refused_file, status_or_stop, write_bytes,
 };
@@ -36,43 +41,235 @@ struct DoneScript {
     status: u8,
 }
 
-/// What is stated in place of answers that differ.
+/// What is stated in place of an answer that differs, for the event of this line of the script that is drawn.
+fn stated_answer(
+    alloc: Global,
+    wrong: &WrongAnswer,
+    line: u64,
+) -> Result<StatedAnswer, AllocError> {
+    let text = match answer_told(alloc, wrong.expected.as_slice())? {
+        Some(text) => text,
+        None => String::from_str(alloc, "nothing")?,
+    };
+    Ok(StatedAnswer { line, text })
+}
+
+/// The same of all answers of a script that differ.
 fn stated_of(alloc: Global, wrong: &[WrongAnswer]) -> Result<Vec<StatedAnswer>, AllocError> {
     let mut stated = Vec::new(alloc);
     for one in wrong {
-        let text = match answer_told(alloc, one.expected.as_slice())? {
-            Some(text) => text,
-            None => String::from_str(alloc, "nothing")?,
-        };
-        stated.push(StatedAnswer {
-            line: one.line,
-            text,
-        })?;
+        stated.push(stated_answer(alloc, one, one.line)?)?;
     }
     Ok(stated)
+}
+
+/// A recording up to the line of an event that nothing explains, with the word that the terminal sends there.
+fn explained_text(
+    alloc: Global,
+    script: &[u8],
+    wrong: &WrongAnswer,
+) -> Result<Vec<u8>, AllocError> {
+    let mut text = Vec::new(alloc);
+    for (before, line) in script.split(|byte| *byte == b'\n').enumerate() {
+        if before as u64 == wrong.line {
+            break;
+        }
+        text.extend_from_slice(line)?;
+        text.push(b'\n')?;
+    }
+    if !wrong.came.is_empty() {
+        text.extend_from_slice(b"#> ")?;
+        text.extend_from_slice(wrong.came.as_slice())?;
+    }
+    Ok(text)
+}
+
+/// Whether a recording leaves open whether the unit was silent in a slot.
+fn has_open_slot(recording: &[u8]) -> bool {
+    recording
+        .split(|byte| *byte == b'\n')
+        .any(|line| line == b"#? slot".as_slice())
+}
+
+/// The event of a line of a recording, certain or open; None where it has none.
+fn event_in(line: &[u8]) -> Option<Event> {
+    match read_event(after(line, b"#? ").unwrap_or(line)) {
+        Ok(event) => event,
+        Err(_) => None,
+    }
+}
+
+/// The event of each line of a text.
+fn events_of(alloc: Global, text: &[u8]) -> Result<Vec<Option<Event>>, AllocError> {
+    let mut events = Vec::new(alloc);
+    for line in text.split(|byte| *byte == b'\n') {
+        events.push(event_in(line))?;
+    }
+    Ok(events)
+}
+
+/// Whether an event is seen in a recording.
+fn is_seen(event: &Event) -> bool {
+    matches!(
+        event,
+        Event::Word(_, _) | Event::Noise(_) | Event::Gap(_) | Event::Slot
+    )
+}
+
+/// Whether a line has this event.
+fn has_event(line: &Option<Event>, event: &Event) -> bool {
+    match line {
+        Some(other) => other == event,
+        None => false,
+    }
+}
+
+/// The number of the last of these lines, from 1, that has an event; 0 where none has.
+fn last_line_of(lines: &[Option<Event>], event: &Event) -> usize {
+    for behind in 0..lines.len() {
+        let index = lines.len() - 1 - behind;
+        if has_event(&lines[index], event) {
+            return index + 1;
+        }
+    }
+    0
+}
+
+/// The last of these lines that has an event which is seen: those above it are left. For any other event the line below.
+fn take_line(left: &mut Vec<Option<Event>>, event: &Event, below: u64) -> u64 {
+    if !is_seen(event) {
+        return below;
+    }
+    let last = last_line_of(left.as_slice(), event);
+    if last == 0 {
+        return below;
+    }
+    left.truncate(last - 1);
+    last as u64
+}
+
+/// For each line of a script that explains a recording the line of the file that it stands for: for what the subsystem does that of the
+/// event behind it. The last events of both are the same.
+fn recorded_lines(
+    alloc: Global,
+    script: &LoadedScript,
+    recording: &[u8],
+    explaining: &[u8],
+) -> Result<Vec<u64>, AllocError> {
+    let mut left = events_of(alloc, recording)?;
+    let mut events = events_of(alloc, explaining)?;
+    events.reverse();
+    let (mut lines, mut line) = (Vec::new(alloc), 0);
+    for event in events.as_slice() {
+        if let Some(event) = event {
+            line = take_line(&mut left, event, line);
+            lines.push(script.line_in_file(line))?;
+        }
+    }
+    lines.reverse();
+    Ok(lines)
+}
+
+/// Draws the messages of a script in which other answers are stated.
+fn draw_messages<R: AllocGlobal>(
+    rt: &R,
+    names: Option<&MessageNames>,
+    normal: &Normal,
+    name: &str,
+    drawn: DrawnScript<'_>,
+    stated: &[StatedAnswer],
+) -> Result<Option<String>, ToolFault> {
+    match draw_stated(rt.alloc(), normal, names, drawn, stated) {
+        Ok(drawing) => Ok(Some(drawing)),
+        Err(DrawFault::Memory) => Err(ToolFault::Memory),
+        Err(fault) => Err(refused_file(rt, name, &fault)),
+    }
+}
+
+/// Whether memory ran out.
+fn is_memory(fault: ScriptFault) -> bool {
+    match fault {
+        ScriptFault::Stated(StatedFault::Memory) => true,
+        ScriptFault::Recording(RecordingFault::Script(StatedFault::Memory)) => true,
+        _ => false,
+    }
+}
+
+/// The script that explains a recording; empty where none is made.
+fn explaining_of(
+    alloc: Global,
+    normal: &Normal,
+    recording: &[u8],
+    kind: ScriptKind,
+) -> Result<Vec<u8>, ToolFault> {
+    if has_open_slot(recording) {
+        return Ok(Vec::new(alloc));
+    }
+    match explaining_script(alloc, normal, recording, kind) {
+        Ok(explaining) => Ok(explaining),
+        Err(fault) if is_memory(fault) => Err(ToolFault::Memory),
+        Err(_) => Ok(Vec::new(alloc)),
+    }
+}
+
+/// The drawing of the message of a recording in which a slot differs: what was recorded up to there, by a script that explains it. Empty
+/// where none is made.
+fn recorded_drawing<R: AllocGlobal>(
+    rt: &R,
+    played: &Played<'_>,
+    normal: &Normal,
+    name: &str,
+    script: &LoadedScript,
+    wrong: &WrongAnswer,
+) -> Result<Option<String>, ToolFault> {
+    let alloc = rt.alloc();
+    let recording = explained_text(alloc, script.text.as_slice(), wrong)?;
+    let recording = recording.as_slice();
+    let explaining = explaining_of(alloc, normal, recording, played.kind)?;
+    let explaining = explaining.as_slice();
+    if explaining.is_empty() {
+        return Ok(Some(String::new(alloc)));
+    }
+    let lines = recorded_lines(alloc, script, recording, explaining)?;
+    let stated = stated_answer(alloc, wrong, lines.len() as u64)?;
+    let drawn = DrawnScript {
+        text: explaining,
+        sources: Some(lines.as_slice()),
+    };
+    let names = played.message_names();
+    draw_messages(
+        rt,
+        names,
+        normal,
+        name,
+        drawn,
+        std::slice::from_ref(&stated),
+    )
 }
 
 /// The drawing of the messages in which something differs; None where nothing does.
 fn drawing_of<R: AllocGlobal>(
     rt: &R,
-    names: Option<&MessageNames>,
+    played: &Played<'_>,
     normal: &Normal,
     name: &str,
     script: &LoadedScript,
     it: &PlayedScript,
 ) -> Result<Option<String>, ToolFault> {
-    if it.wrong.is_empty() {
-        return Ok(None);
-    }
-    let stated = stated_of(rt.alloc(), it.wrong.as_slice())?;
-    let drawn = DrawnScript {
-        text: script.text.as_slice(),
-        sources: script.sources(),
-    };
-    match draw_stated(rt.alloc(), normal, names, drawn, stated.as_slice()) {
-        Ok(drawing) => Ok(Some(drawing)),
-        Err(DrawFault::Memory) => Err(ToolFault::Memory),
-        Err(fault) => Err(refused_file(rt, name, &fault)),
+    match (it.wrong.as_slice(), it.notes.wording) {
+        ([], _) => Ok(None),
+        ([first, ..], Wording::Recording) => {
+            recorded_drawing(rt, played, normal, name, script, first)
+        }
+        (wrong, Wording::Test) => {
+            let stated = stated_of(rt.alloc(), wrong)?;
+            let drawn = DrawnScript {
+                text: script.text.as_slice(),
+                sources: script.sources(),
+            };
+            let names = played.message_names();
+            draw_messages(rt, names, normal, name, drawn, stated.as_slice())
+        }
     }
 }
 
@@ -107,7 +304,7 @@ fn outcome_of_script<R: AllocGlobal + Eprint, F: Read + Drop>(
     let drawn = drawn && rest.is_none();
     let it = play_script(rt, played, normal, name, script, rest)?;
     let drawing = if drawn {
-        drawing_of(rt, played.message_names(), normal, name, script, &it)?
+        drawing_of(rt, played, normal, name, script, &it)?
     } else {
         None
     };
@@ -115,9 +312,7 @@ fn outcome_of_script<R: AllocGlobal + Eprint, F: Read + Drop>(
         answers: it.answers,
         unjudged: it.unjudged,
         wrong: wrong_in_file(rt.alloc(), script, it.wrong)?,
-        wording: it.wording,
-        names: it.names,
-        rules: it.rules,
+        notes: it.notes,
         drawing,
     })
 }

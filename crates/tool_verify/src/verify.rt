@@ -16,8 +16,8 @@ use line_format::after;
 use message_names::{MessageNames, owned};
 use rt1553_files::escaped;
 use rt1553_report::{
-    AnswerNames, ScriptVerdict, TriedScript, Unjudged, Wording, clauses_in, difference_told,
-    name_at,
+    AnswerNames, DifferenceNotes, ScriptVerdict, TriedScript, Unjudged, Wording, bench_message,
+    clauses_in, difference_told,
 };
 use rt1553_tool_args::{AskedReport, AskedWitness, Profiles, ReportFormat, ScriptKind};
 use rt1553_verify::{WrongAnswer, named};
@@ -165,14 +165,13 @@ fn put_wrong_answer<W: Write>(
     index: usize,
     wrong: &WrongAnswer,
 ) -> Result<(), ToolFault> {
-    let told = difference_told(alloc, wrong, it.wording, name_at(&it.names, index))?;
-    let told = told.as_str();
-    let text = match it.rules.at(index) {
-        Some(time) if it.wording == Wording::Recording => {
-            format!(in alloc; "{place}: {told} # {time}\n")?
-        }
-        _ => format!(in alloc; "{place}: {told}\n")?,
-    };
+    let wording = it.notes.wording;
+    let mut beside = it.notes.beside(index);
+    if wording == Wording::Test {
+        beside.rule = None;
+    }
+    let told = difference_told(alloc, wrong, wording, beside)?;
+    let text = format!(in alloc; "{place}: {}\n", told.as_str())?;
     write_bytes(output, text.as_str().as_bytes())
 }
 
@@ -248,12 +247,10 @@ pub struct PlayedScript {
     /// Why nothing of it is judged, where nothing differs.
     pub unjudged: Option<Unjudged>,
     pub wrong: Vec<WrongAnswer>,
-    /// In which words that is told.
-    pub wording: Wording,
-    /// The names of the messages of these events, where there are names.
-    pub names: Option<AnswerNames>,
-    /// The rules under which these events stand, or their times in a recording.
-    pub rules: AnswerNames,
+    /// How that is told.
+    pub notes: DifferenceNotes,
+    /// In how many slots of a recording the unit may have been silent.
+    pub silences: u64,
 }
 
 impl PlayedScript {
@@ -322,8 +319,67 @@ fn names_of(
     Ok(Some(AnswerNames { names: list }))
 }
 
-/// Tells, on the standard error, what a script in which something differs lacks to be judged; and which part of a recording that began
-/// at any time is judged.
+/// The messages of commands of a recording, in the words of a test bench; none of a test.
+fn messages_of(
+    alloc: Global,
+    wording: Wording,
+    commands: &[Option<u16>],
+) -> Result<AnswerNames, AllocError> {
+    let mut list = Vec::new(alloc);
+    if wording == Wording::Test {
+        return Ok(AnswerNames { names: list });
+    }
+    for command in commands {
+        list.push(match command {
+            Some(word) => Some(bench_message(alloc, *word)?),
+            None => None,
+        })?;
+    }
+    Ok(AnswerNames { names: list })
+}
+
+/// Whether a comment behind a line, before the next event, has a reply that came too late.
+fn is_late_behind(script: &[u8], line: u64) -> bool {
+    for (before, text) in script.split(|byte| *byte == b'\n').enumerate() {
+        if (before as u64) < line {
+            continue;
+        }
+        if after(text, b"# later than no response: ").is_some() {
+            return true;
+        }
+        if !text.is_empty() && after(text, b"# ").is_none() {
+            return false;
+        }
+    }
+    false
+}
+
+/// Whether a reply came too late in the first of these events.
+fn is_first_late(script: &[u8], wrong: &[WrongAnswer]) -> bool {
+    match wrong {
+        [first, ..] => is_late_behind(script, first.line),
+        [] => false,
+    }
+}
+
+/// How it is told what differs in a script.
+fn notes_of(
+    alloc: Global,
+    played: &Played<'_>,
+    script: &[u8],
+    it: &Compared,
+) -> Result<DifferenceNotes, AllocError> {
+    let (wording, commands) = (wording_of(played.kind), it.commands.as_slice());
+    Ok(DifferenceNotes {
+        wording,
+        names: names_of(alloc, played.message_names(), commands)?,
+        messages: messages_of(alloc, wording, commands)?,
+        rules: rules_of(alloc, script, it.wrong.as_slice())?,
+        is_late: is_first_late(script, it.wrong.as_slice()),
+    })
+}
+
+/// Tells, on the standard error, what a script in which something differs lacks to be judged; and which parts of a recording are judged.
 fn tell_judged<R: AllocGlobal + Eprint>(
     rt: &R,
     name: &str,
@@ -339,6 +395,10 @@ fn tell_judged<R: AllocGlobal + Eprint>(
     if let Some(line) = it.after {
         let line = script.line_in_file(line);
         let _ = eprintln!(rt; "{name}: judged after line {line}");
+    }
+    if it.silences > 0 {
+        let slots = it.silences;
+        let _ = eprintln!(rt; "{name}: slots in which the unit may be silent: {slots}; behind each nothing is judged up to the next pause");
     }
     Ok(())
 }
@@ -358,32 +418,24 @@ pub fn play_script<R: AllocGlobal + Eprint, F: Read + Drop>(
     let text = script.text.as_slice();
     match compare_open(rt.alloc(), normal, text, rest, played.kind) {
         Ok(compared) => {
-            let names = names_of(
-                rt.alloc(),
-                played.message_names(),
-                compared.commands.as_slice(),
-            )?;
-            let wording = wording_of(played.kind);
-            if wording == Wording::Recording {
+            let notes = notes_of(rt.alloc(), played, text, &compared)?;
+            if notes.wording == Wording::Recording {
                 warn_of_hand_overs(rt, name, text)?;
             }
             tell_judged(rt, name, script, &compared)?;
-            let rules = rules_of(rt.alloc(), text, compared.wrong.as_slice())?;
             Ok(PlayedScript {
                 answers: compared.answers,
                 unjudged: compared.unjudged,
                 wrong: compared.wrong,
-                wording,
-                names,
-                rules,
+                notes,
+                silences: compared.silences,
             })
         }
         Err(fault) => Err(script_fault(rt, name, script, fault)),
     }
 }
 
-/// Plays a script, writes where it differs, or that nothing of it is judged, or, where it is asked for, that it passes, and gives the
-/// verdict on it.
+/// Plays a script, and writes where it differs, or that nothing of it is judged, or, where it is asked for, that it passes.
 fn tell_script<R: Files + AllocGlobal + Eprint, W: Write>(
     rt: &R,
     played: &Played<'_>,
@@ -392,8 +444,8 @@ fn tell_script<R: Files + AllocGlobal + Eprint, W: Write>(
     rest: Option<R::File>,
     report: ScriptReport,
     output: &mut W,
-) -> Result<ScriptVerdict, ToolFault>
-    ensures { IfOk result (λ verdict. (profile : LoadedProfile) × IsPlayedTo played.now.to profile × (rest ≡ None → SaysOf played.now.kind profile.normal script.now.text.items verdict)) }
+) -> Result<PlayedScript, ToolFault>
+    ensures { IfOk result (λ it. (profile : LoadedProfile) × IsPlayedTo played.now.to profile × (rest ≡ None → SaysOf played.now.kind profile.normal script.now.text.items (verdict_of (length it.wrong.items == 0) it.unjudged))) }
 {
     let profile = played.of_script(rt, name, script.text.as_slice())?;
     let it = play_script(rt, played, &profile.normal, name, script, rest)?;
@@ -404,7 +456,7 @@ fn tell_script<R: Files + AllocGlobal + Eprint, W: Write>(
         put_wrong_answer(rt.alloc(), output, place.as_str(), &it, index, wrong)?;
     }
     put_verdict(rt.alloc(), output, name.as_str(), &it, report)?;
-    Ok(it.verdict())
+    Ok(it)
 }
 
 /// Gives the clauses that a script names, of the test plan or of the standard; none where it names none.
@@ -461,11 +513,11 @@ fn play_file<R: Files + AllocGlobal + Eprint, W: Write>(
     };
     let outcome = tell_script(rt, played, name, &script, rest, report, output);
     let verdict = match &outcome {
-        Ok(verdict) => Some(*verdict),
+        Ok(it) => Some(it.verdict()),
         Err(_) => None,
     };
     keep(rt.alloc(), tried, script.text.as_slice(), verdict)?;
-    Ok(outcome?.status())
+    Ok(outcome?.verdict().status())
 }
 
 /// Plays scripts of files, and gives the status to end with.
@@ -526,6 +578,9 @@ pub fn verify_scripts<R: Files + AllocGlobal + Eprint, W: Write>(
     }
 }
 
+/// Why no script explains a recording in which the unit may have been silent.
+const UNKNOWN: &str = "recording: what the unit did is not known behind a slot in which it may have been silent";
+
 /// Writes a script that explains a recording: what is seen there, and before it what the subsystem did. Where nothing explains it, the
 /// first line that is not explained is written in its place, or that nothing is judged, as by `verify_scripts`.
 pub fn explain_recording<R: Files + AllocGlobal + Eprint, W: Write>(
@@ -549,9 +604,13 @@ pub fn explain_recording<R: Files + AllocGlobal + Eprint, W: Write>(
         has_colours: screen.has_colours,
     };
     let script = load_script(rt, asked.script, played.expands_for(rt, asked.script)?)?;
-    let verdict = tell_script(rt, &played, asked.script, &script, None, report, output)?;
+    let it = tell_script(rt, &played, asked.script, &script, None, report, output)?;
+    let verdict = it.verdict();
     if verdict != ScriptVerdict::Passed {
         return Ok(verdict.status());
+    }
+    if it.silences > 0 {
+        return Err(refused_file(rt, asked.script, &UNKNOWN));
     }
     match explaining_script(rt.alloc(), &normal, script.text.as_slice(), asked.kind) {
         Ok(text) => {
