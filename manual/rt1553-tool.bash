@@ -22,6 +22,8 @@ _rt1553_tool() {
         recording:--gap) return ;;
         recording:--no-response) return ;;
         recording:--pause) return ;;
+        recording:--after-reset) return ;;
+        recording:--after-self-test) return ;;
         coverage:--format) mapfile -t COMPREPLY < <(compgen -W 'text json html' -- "$now"); return ;;
         coverage:--names) mapfile -t COMPREPLY < <(compgen -f -X '!*.csv' -- "$now"; compgen -d -- "$now"); return ;;
         infer:--address) return ;;
@@ -51,7 +53,7 @@ _rt1553_tool() {
         check-script) flags='--help' kinds=(script) many='script' ;;
         verify) flags='--summary --bus-only --any-subsystem --already-on --witness --expand --profiles --format --names --date --help' kinds=(profile script) many='script' ;;
         answers) flags='--expand --help' kinds=(profile script) many='' ;;
-        recording) flags='--address --gap --no-response --pause --help' kinds=(table) many='' ;;
+        recording) flags='--address --gap --no-response --pause --after-reset --after-self-test --help' kinds=(table) many='' ;;
         coverage) flags='--expand --format --names --help' kinds=(profile script) many='script' ;;
         infer) flags='--address --unseen --expand --help' kinds=(script) many='' ;;
         import) flags='--check --help' kinds=(table profile) many='' ;;
@@ -84,6 +86,8 @@ _rt1553_tool() {
             recording:--gap) index=$((index + 1)) ;;
             recording:--no-response) index=$((index + 1)) ;;
             recording:--pause) index=$((index + 1)) ;;
+            recording:--after-reset) index=$((index + 1)) ;;
+            recording:--after-self-test) index=$((index + 1)) ;;
             coverage:--format) index=$((index + 1)) ;;
             coverage:--names) index=$((index + 1)) ;;
             infer:--address) index=$((index + 1)) ;;

@@ -46,6 +46,8 @@ complete -c rt1553-tool -n '__fish_seen_subcommand_from recording' -l address -x
 complete -c rt1553-tool -n '__fish_seen_subcommand_from recording' -l gap -x -d 'a longer silence is a gap, in microseconds (default: 1)'
 complete -c rt1553-tool -n '__fish_seen_subcommand_from recording' -l no-response -x -d 'a status word after a longer silence is no reply, in microseconds (default: 12)'
 complete -c rt1553-tool -n '__fish_seen_subcommand_from recording' -l pause -x -d 'a longer silence of both buses is a pause, in microseconds (default: 100)'
+complete -c rt1553-tool -n '__fish_seen_subcommand_from recording' -l after-reset -x -d 'so long behind a reset a missing reply convicts no unit, in microseconds (default: 5000)'
+complete -c rt1553-tool -n '__fish_seen_subcommand_from recording' -l after-self-test -x -d 'so long behind the start of a self test, in microseconds (default: 100000)'
 complete -c rt1553-tool -n '__fish_seen_subcommand_from recording' -F
 complete -c rt1553-tool -n __fish_use_subcommand -a coverage -d 'Prints which messages of a terminal came in recordings, and which never'
 complete -c rt1553-tool -n '__fish_seen_subcommand_from coverage' -l expand -d 'takes messages, too, as `expand` does'
