@@ -12,7 +12,8 @@ It takes a silence for a gap from 2 on, at the latest when its reply is due or a
 a random time in between. A reply begins after a silence of 2 to 10 (4.3.3.8); its words are contiguous. A valid command for the unit on the other
 bus drops what is not sent; the word that sounds then ends whole, or is cut. In a transfer between terminals the unit waits for the status
 word through a silence of at least 12 (4.3.3.9: 14 from mid-parity to mid-sync), and for the first data word until 54 to 60 from the
-mid-parity of the receive command to its mid-sync (Notice 2, 30.9). Both limits belong to the unit and are drawn.
+mid-parity of the receive command to its mid-sync (Notice 2, 30.9). Both limits belong to the unit and are drawn. Behind its status word to a
+reset or to the begin of a self test, or behind one of these to all, some units hear nothing for a while (Notice 2, 30.4.3, 30.4.4).
 
 **The others** are controllers and terminals. One controller plays message after message, or goes over to the other bus before a
 message or its reply has ended, or two buses have controllers of their own. Other terminals reply after a silence of 2 to 10, too late, or not at
@@ -23,7 +24,7 @@ What the standard leaves open is drawn, or left out:
 - When a unit takes a silence for a gap while a word on the other bus ends meanwhile: such a run is `undecided`.
 - Words of the two buses whose order the monitor can't tell, since its resolution is too coarse: such a table is `close`.
 - A second sender on a bus at the same time garbles both. It is left out: no controller sends on a bus while the unit may reply there.
-- What a unit does during the milliseconds of a reset or a self test. It does both at once.
+- What a unit sends during the milliseconds of a reset or a self test. It hears nothing then, or does both at once.
 - Whether a reset acts whose status word is cut. That word ends whole."""
 
 import collections
@@ -61,6 +62,8 @@ LEAST, LATEST, NO_RESPONSE = 2.0, 10.0, 12.0
 # from the mid-parity of the receive command to the mid-sync of the first data word
 FIRST_DATA = (54.0, 60.0)
 MID_PARITY, MID_SYNC = 0.5, 1.5
+# for how long a unit may hear nothing behind its status word to mode codes 8 and 3
+RECOVERIES = {8: 5_000.0, 3: 100_000.0}
 # a silence after which a conforming unit sends nothing
 SILENT = 10.5
 UNSEEN = ("write", "vector", "bit", "flag")
@@ -136,9 +139,9 @@ class Buses:
 
 
 class Unit:
-    """A unit that conforms."""
+    """A unit that conforms. Where it `recovers`, it may hear nothing for a while after a reset or a self test."""
 
-    def __init__(self, clock, buses, setup, draw):
+    def __init__(self, clock, buses, setup, draw, recovers):
         self.clock, self.buses, self.draw = clock, buses, draw
         self.terminal, self.log = rules.Terminal(setup), []
         self.ended = {"A": None, "B": None}  # when the word ended behind which no gap has come
@@ -146,6 +149,9 @@ class Unit:
         self.lasting = WORD * draw.uniform(0.999, 1.001)
         self.prompt, self.cuts = draw.random() < 0.5, draw.random() < 0.5
         self.patience, self.first_data = draw.uniform(NO_RESPONSE, 40), draw.uniform(*FIRST_DATA)
+        self.recovers = draw.random() < 0.5 and recovers
+        self.recovery, self.deaf_until = 0.0, 0.0  # how long from its next status word on it may be deaf, and until when it is
+        self.missed = {"A": -WORD, "B": -WORD}  # when the last word ended that it did not hear
 
     def take(self, event, word=None, ended=0.0):
         """Takes an event, and notes it if it is seen on the buses."""
@@ -172,8 +178,29 @@ class Unit:
             self.gap(bus)
         self.ended[bus] = None
 
+    def recovery_of(self, command):
+        """How long the unit may be deaf behind a command: that is a reset, or begins a self test, and is legal."""
+        cell = rules.cell_of(command)
+        return RECOVERIES.get(cell[1], 0.0) if cell and "mode" in cell[0] and self.terminal.is_legal(command) else 0.0
+
+    def deafen(self, recovery, word=None):
+        """From now on the unit hears nothing, for a while; but for one whose status word was cut."""
+        if word and not word.valid:
+            return
+        self.deaf_until = self.clock.now + self.draw.uniform(0, self.draw.choice((300, 1000, recovery)))
+        self.ended = {"A": None, "B": None}
+
+    def is_deaf(self, word):
+        """Whether the unit does not hear a word: it began when the unit was deaf, or follows one that was not heard without a gap."""
+        is_deaf = word.begin < max(self.deaf_until, self.missed[word.bus] + 1)
+        if is_deaf:
+            self.missed[word.bus] = self.clock.now
+        return is_deaf
+
     def hears(self, word):
         """A word of another ends."""
+        if self.is_deaf(word):
+            return
         self.subsystem()
         reply, sync = self.terminal.reply, "d" if word.kind == "d" else "c"
         self.take(("word", word.bus, rules.valid_word(sync, word.bits)) if word.valid else ("noise", word.bus), word)
@@ -201,9 +228,13 @@ class Unit:
         ended, self.ended[bus] = self.ended[bus], None
         reply, message = self.terminal.reply, self.terminal.message
         phase = message and message.phase
+        recovery = self.recovery_of(message.command) if self.recovers and message and message.bus == bus and not message.followed else 0.0
         self.take(("gap", bus), ended=ended)
         if self.terminal.reply is not reply:
+            self.recovery = recovery
             self.clock.at(ended + response, functools.partial(self.send, self.terminal.reply))
+        elif recovery and rules.is_broadcast(message.command):
+            self.deafen(recovery)
         if message and message.phase == "waiting" != phase:
             receive_ended = ended - WORD
             self.clock.at(ended + self.patience, functools.partial(self.no_status, bus, message))
@@ -231,6 +262,9 @@ class Unit:
         kind, _, word.bits = self.take(("slot",), word)
         word.kind = kind[0]
         self.clock.at(self.buses.free[reply.bus], functools.partial(self.send, reply))
+        if self.recovery:
+            self.clock.at(self.buses.free[reply.bus], functools.partial(self.deafen, self.recovery, word))
+            self.recovery = 0.0
 
     def may_send(self, bus):
         """Whether a reply is in progress on a bus, or a gap would begin one."""
@@ -459,11 +493,11 @@ def setup_of(number):
     return play.setup_of(tomllib.loads(random_scripts.profile_of(number)))
 
 
-def run_of(seed):
-    """The run of a seed: the profile is the seed's remainder by 16."""
+def run_of(seed, recovers=True):
+    """The run of a seed: the profile is the seed's remainder by 16. The unit may be deaf after a reset or a self test where it `recovers`."""
     draw, clock, setup = random.Random(seed), Clock(), setup_of(seed % len(PROFILES))
     buses = Buses(clock)
-    unit = Unit(clock, buses, setup, draw)
+    unit = Unit(clock, buses, setup, draw, recovers)
     mode, plain = draw.choice(MODES), draw.random() < 0.5
     Controllers(clock, buses, unit, setup, draw, plain).start(mode, draw.randint(4, 12))
     clock.run()
@@ -632,8 +666,8 @@ FAULTS = {it.__name__: it for it in (wrong_bit, wrong_status, missing_word, miss
 
 
 def faulty_run(seed, fault):
-    """The run of a seed, with this fault; None where it has no place for it."""
-    run, draw = run_of(seed), random.Random(seed)
+    """The run of a seed, with this fault; None where it has no place for it. The unit is never deaf, which would excuse it."""
+    run, draw = run_of(seed, recovers=False), random.Random(seed)
     replies = replies_of(run)
     return run if replies and FAULTS[fault](run, draw, replies) else None
 

@@ -18,7 +18,7 @@ pytestmark = pytest.mark.slow
 TABLES = int(os.environ.get("CONFORMING_TABLES", "1600"))
 FAULTY = 320
 # why a table of words may be refused
-UNCLEAR = "end within 1 microsecond"
+UNCLEAR = "end within what their times leave open"
 
 
 def seeds_of(number, tables):

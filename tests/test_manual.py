@@ -47,7 +47,7 @@ rt1553-tool verify a.toml c.script .|c.script sub
 rt1553-tool verify --summary a.toml .|c.script sub
 rt1553-tool verify --profiles .|sub
 rt1553-tool verify --profiles sub .|c.script sub
-rt1553-tool recording --|--address --gap --help --no-response --pause
+rt1553-tool recording --|--address --after-reset --after-self-test --gap --help --no-response --pause
 rt1553-tool recording --gap .|
 rt1553-tool coverage --|--expand --format --help --names
 rt1553-tool infer --|--address --expand --help --unseen

@@ -5,7 +5,7 @@ each run is a recording, which has to be explained, and `rt1553` plays the scrip
 is changed in one slot: a bit, the kind, silence or a word. Of some, data words are left open. `decided` tells how many sightings are
 explained then. Other runs are seen from some time on, with a pause in them: `--already-on` judges their first part that begins afresh,
 and `rt1553` plays the scripts that explain some of them. For some runs `infer` has to propose a profile that explains them. Units with
-such a subsystem also answer the acceptance test, right and with a changed reply."""
+such a subsystem also answer the acceptance test, right and with a changed reply. A unit that resets or tests itself may be silent then."""
 
 import functools
 import random
@@ -185,28 +185,77 @@ def unjudged(recording):
     return "the script states no answer" if recording else "the script has no event"
 
 
+# the bits of a status word behind its address, the first sent first (MIL-STD-1553B, 4.3.3.5.3)
+BITS = (
+    "message error", "instrumentation", "service request", "reserved bit 1", "reserved bit 2", "reserved bit 3", "broadcast command received",
+    "busy", "subsystem flag", "dynamic bus control acceptance", "terminal flag",
+)  # fmt: skip
+
+
+def bits_told(recorded, sent):
+    """The bits in which a status word that was recorded differs from that which the terminal sends."""
+    told = []
+    for mask, name in zip((1 << it for it in reversed(range(11))), BITS):
+        if (recorded ^ sent) & mask:
+            told.append(f"{name} is set" if recorded & mask else f"{name} is not" if told else f"{name} is not set")
+    return ", ".join(told)
+
+
+def word_fault(recorded, sent):
+    """What is wrong with a unit that sent one word where the terminal sends another."""
+    words = {"status": "a status word", "data": "a data word"}
+    (kind, bus, bits), (kind_sent, bus_sent, bits_sent) = recorded, sent
+    if bus != bus_sent:
+        return "the reply is on the other bus"
+    if kind != kind_sent:
+        return f"{words[kind]} in place of {words[kind_sent]}"
+    if kind == "data":
+        return "another data word"
+    return f"another status word: {bits_told(bits, bits_sent)}" if bits >> 11 == bits_sent >> 11 else f"another address: {bits >> 11}"
+
+
 def slot_fault(recorded, sent):
     """What is wrong with a unit that sent one word, or none, where the terminal sends another, or none."""
-    words = {"status": "a status word", "data": "a data word"}
     if recorded and sent:
-        is_same = recorded[0] == sent[0]
-        return f"another {sent[0]} word" if is_same else f"{words[recorded[0]]} in place of {words[sent[0]]}"
+        return word_fault(recorded, sent)
     if recorded:
         return "no reply is due" if recorded[0] == "status" else "the reply is too long"
     return "no reply" if sent[0] == "status" else "the reply is too short"
 
 
-def check_told(explains, recording, name, numbers, told, why):
-    """This is what is to be told of a recording, of which so many sightings are explained as `explains` says."""
+def message_told(recording, address):
+    """The message to which the last of some sightings belongs, in the words of a test bench; None before the first command to this address or to
+    all terminals."""
+    words = [event[2] for event, _ in recording if event[0] == "word"]
+    commands = [word[1] for word in words if rules.is_valid(word) and word[0] == "c" and word[1] >> 11 in (address, 31)]
+    if not commands:
+        return None
+    command = commands[-1]
+    subaddress, low = command >> 5 & 31, command & 31
+    to = "all RT" if command >> 11 == 31 else f"RT {address}"
+    if subaddress in (0, 31):
+        return f"{to} mode code {low}"
+    return f"{to} {'transmit' if command >> 10 & 1 else 'receive'} {subaddress}, {low or 32} word{'s' if low != 1 else ''}"
+
+
+def fault_told(recording, recorded, sent, address):
+    """What is wrong with a unit in the last of some sightings, and in which message."""
+    fault, message = slot_fault(recorded, sent), message_told(recording, address)
+    return fault + (f"{' to' if fault == 'no reply' else ', in'} {message}" if message else "")
+
+
+def check_told(judge, setup, recording, name, numbers, told, before=()):
+    """This is what is to be told of a recording, of which so many sightings are explained as `judge` says, and others come before it."""
+    explains, why = functools.partial(judge, setup), unjudged(recording)
     count = explains(recording)
     if count == len(recording):
         assert told == ([f"{name}: not judged: {why}"] if why else [])
         return
     event, sent = recording[count]
-    found = re.fullmatch("(.*?): ([^:]*): recorded (.*); the terminal sends (.*)", told[0]) if told else None
+    found = re.fullmatch("(.*?): (.*): recorded (.*); the terminal sends (.*)", told[0]) if told else None
     assert found and [found[1], found[3], *told[1:]] == [f"{name}:{numbers[count]}", stated(sent), f"{name}: differences: 1"], told
     assert explains([*recording[:count], (event, sent_of(found[4]))]) == count + 1, f"{name}: this can't come: {found[4]}"
-    assert found[2] == slot_fault(sent, sent_of(found[4])), told
+    assert found[2] == fault_told([*before, *recording[: count + 1]], sent, sent_of(found[4]), setup.address), told
 
 
 def verified(tool, folder, names, *options):
@@ -221,7 +270,7 @@ def check_judged(build, folder, setup, recordings):
     told, warnings = verified(build.tool, folder, map(str, range(len(recordings))))
     assert warnings == {}
     for n, recording in enumerate(recordings):
-        check_told(functools.partial(explained, setup), recording, str(n), script_of(recording)[1], told.get(str(n), []), unjudged(recording))
+        check_told(explained, setup, recording, str(n), script_of(recording)[1], told.get(str(n), []))
 
 
 def check_explained(build, folder, setup, recordings):
@@ -240,7 +289,7 @@ def check_judged_later(build, folder, setup, recordings):
         else:
             assert parts[name] == [f"{name}: judged after line {lines[begin - 1]}"]
             part = recording[begin:]
-            check_told(functools.partial(explained_later, setup), part, name, lines[begin:], told.get(name, []), unjudged(part))
+            check_told(explained_later, setup, part, name, lines[begin:], told.get(name, []), recording[:begin])
 
 
 # ---- scripts that explain them
@@ -373,6 +422,45 @@ def check_unit(tool, folder, setup, exchanges, replies):
         return
     found = re.match(r"(\d+): .*, word (\d+) can be .*\n", given.output.decode())
     assert found and (given.status, int(found[1]), int(found[2])) == (1, number + 1, at + 1), given
+
+
+# ---- tables of a unit that is silent after a reset or a self test
+
+
+SELF_TESTS = "address = 5\n[[mode]]\ncodes = 3\n"
+WORDS, ROWS = "time,bus,sync,word", "time,bus,command,status"
+RESET = ("0,A,c,2c08", "24,A,s,2800")
+SELF_TEST = ("0,A,c,2c03", "24,A,s,2800")
+# header and rows, options, and the status of the verdict: 0 passed, 1 failed
+SILENCES = {
+    "a reset": ((WORDS, *RESET, "1000,A,c,2c02"), (), 0),
+    "a reset, and a message more": ((WORDS, *RESET, "1000,A,c,2c02", "1040,A,c,2c02", "1064,A,s,2820"), (), 0),
+    "a reset, and a fault behind the next pause": ((WORDS, *RESET, "1000,A,c,2c02", "6000,A,c,2c05", "6024,A,s,2820"), (), 1),
+    "a reset, and a message that is superseded": ((WORDS, *RESET, "1000,A,c,2c05", "1010,B,c,2c05", "1034,B,s,2820"), (), 0),
+    "a reset, and a message with its reply": ((WORDS, *RESET, "1000,A,c,2c05", "1024,A,s,2820"), (), 1),
+    "5.1 ms after a reset": ((WORDS, *RESET, "5144,A,c,2c02"), (), 1),
+    "more than was asked for after a reset": ((WORDS, *RESET, "1000,A,c,2c02"), ("--after-reset", "500"), 1),
+    "before a reset": ((WORDS, "0,A,c,2c02", "100,A,c,2c08", "124,A,s,2800"), (), 1),
+    "no reset": ((WORDS, "0,A,c,2c05", "24,A,s,2800", "1000,A,c,2c02"), (), 1),
+    "a reset of another": ((WORDS, "0,A,c,2c05", "24,A,s,2800", "500,A,c,3408", "524,A,s,3000", "1500,A,c,2c02"), (), 1),
+    "a reset of all": ((WORDS, "0,A,c,2c05", "24,A,s,2800", "500,A,c,fc08", "1500,A,c,2c02"), (), 0),
+    "a self test": ((WORDS, *SELF_TEST, "100000,A,c,2c02"), (), 0),
+    "101 ms after a self test": ((WORDS, *SELF_TEST, "101000,A,c,2c02"), (), 1),
+    "more than was asked for after a self test": ((WORDS, *SELF_TEST, "1000,A,c,2c02"), ("--after-self-test", "500"), 1),
+    "a reset, by messages": ((ROWS, "0,A,2c08,2800", "1000,A,2c02,"), (), 0),
+    "a reset, and a fault in a message more": ((ROWS, "0,A,2c08,2800", "1000,A,2c02,", "1060,A,2c02,2820"), (), 0),
+    "5.2 ms after a reset, by messages": ((ROWS, "0,A,2c08,2800", "5200,A,2c02,"), (), 1),
+}  # fmt: skip
+
+
+@pytest.mark.parametrize("name", SILENCES)
+def test_silence(shipped, name, tmp_path):
+    rows, options, status = SILENCES[name]
+    write_files(tmp_path, {"profile.toml": SELF_TESTS, "table.csv": "".join(f"{row}\n" for row in rows)})
+    made = run(shipped.tool, "recording", "table.csv", "--address", "5", *options, folder=tmp_path)
+    write_files(tmp_path, {"script": made.output})
+    said = run(shipped.tool, "verify", "--any-subsystem", "profile.toml", "script", folder=tmp_path)
+    assert (made.status, said.status) == (0, status), said
 
 
 # ---- the tests, of each profile

@@ -268,7 +268,7 @@ def test_digest_of_messages(tool, shown, tmp_path):
 
 
 RECORDED = "# 100.0\nA c 2c02\nA gap\n# 126.0\nslot\n#> A s 2800\n# 1000.0\nA c 2c02\nA gap\nslot\n"
-TOLD = "unit:10: no reply: recorded nothing; the terminal sends A s 2800 # 1000.0\n"
+TOLD = "unit:10: no reply to RT 5 mode code 2 at 1000.0: recorded nothing; the terminal sends A s 2800\n"
 
 
 def test_difference_of_a_recording(tool, tmp_path):
@@ -280,11 +280,33 @@ def test_difference_of_a_recording(tool, tmp_path):
     assert text["text"] == f"{TOLD}unit: differences: 1\n"
     (one,) = reports.objects_of(text["json"])
     assert reports.misfits(one, "docs/verify.schema.json") == []
-    assert one["differences"] == [{"line": 10, "time": "1000.0", "fault": "no reply", "recorded": None, "sends": "A s 2800"}]
+    assert one["differences"] == [{"line": 10, "message": "RT 5 mode code 2", "time": "1000.0", "fault": "no reply", "recorded": None, "sends": "A s 2800"}]
     assert f'<failure message="differences: 1">{TOLD}</failure>' in text["junit"]
     tables = reports.body_of(text["html"]).findall(f"{reports.HTML}table")
-    rows = [["line", "time", "fault", "recorded", "the terminal sends"], ["10", "1000.0", "no reply", "nothing", "A s 2800"]]
+    rows = [["line", "message", "time", "fault", "recorded", "the terminal sends"],
+            ["10", "RT 5 mode code 2", "1000.0", "no reply", "nothing", "A s 2800"]]  # fmt: skip
     assert rows in [reports.rows_in(it) for it in tables]
+
+
+# a unit that is busy, then sends words of its own, and one too few
+GAVE = "A c 2821\nA d 0001\nA gap\n# 7\nslot\n#> A s 2808\nA gap\nslot\n#? A gap\nA C\nA gap\nslot\n#> A s 2800\nslot\n#> A d 1111\nslot\nA gap\n"
+BOTH = "address = 5\n[[rule]]\ndirection = \"both\"\nsubaddresses = \"1\"\ncounts = \"1-2\"\n"
+DRAWN_RECORDINGS = {
+    "from power-up": (GAVE.replace("A C", "A c 2C22"), [], 16),
+    "later": (f"A gap\nA gap\nB gap\nB gap\nslot\n{GAVE.replace('A C', 'A c 2c22 0')}", ["--already-on"], 21),
+}
+
+
+@pytest.mark.parametrize("name", DRAWN_RECORDINGS)
+def test_drawing_of_a_recording(tool, name, tmp_path):
+    """What was recorded is drawn, at its lines, with what the subsystem did, and the slot that differs is marked."""
+    text, options, line = DRAWN_RECORDINGS[name]
+    write_files(tmp_path, {"both": BOTH, "unit": text})
+    page = run(tool, "verify", "--any-subsystem", *options, "--format", "html", "both", "unit", folder=tmp_path).output.decode()
+    titles = [reports.words_of(it) for it in reports.body_of(page).iter(f"{reports.SVG}title")]
+    wanted = [f"line {line - 4}: slot, A s 2800, status of 5", f"line {line - 2}: write 01 01 1111, write at 1, word 1",
+              f"line {line - 2}: slot, A d 1111, data", f"line {line}: slot, A d 0000, data", f"expected at line {line}: nothing"]  # fmt: skip
+    assert [it for it in titles if it in wanted] == wanted, titles
 
 
 LINES = "# a recording\n" + "slot\n" * 400_000

@@ -8,6 +8,7 @@ from schemas import misfits
 
 ASK = "A c 2c02\nA gap\nslot\n"
 PAUSE = "A gap\nA gap\nB gap\nB gap\nslot\n"
+UNHEARD = "slots in which the unit may be silent: 1; behind each nothing is judged up to the next pause\n"
 AGAIN = "A c 2c05\nA gap\nslot\n"
 FLAGS = "A c 2c61\nA gap\nslot\n#> A s 2d00\nA c 2c61\nA gap\nslot\n#> A s 2c05\n"
 LEFT_OUT = "hands: warning: what is handed over is left out: a bus does not show it\n"
@@ -55,23 +56,50 @@ RECORDINGS = with_files(
         "gave": f"{LATE}slot\n{ASK}#> A s 2c00\n",
         "waited": f"{LATE}slot\n#> A s 2800\n{ASK}#> A s 2800\n",
         "neither": f"{LATE}slot\n#> A s 2c00\n",
-        "slots": f"{ASK}#> A s 2800\n#? slot\n",
+        "mistyped": f"{ASK}#> A s 2800\n#? A c 2c02\n",
+        "unheard": f"{ASK}#> A s 2800\nA c 2c02\nA gap\n#? slot\n{ASK}#> A s 2801\n",
+        "afresh": f"{ASK}#> A s 2800\nA c 2c02\nA gap\n#? slot\n{ASK}#> A s 2801\n{PAUSE}A c 2c08\nA gap\nslot\n#> A s 2820\n",
+        "deaf": f"A c 2c02\nA gap\n#? slot\n{ASK}#> A s 2800\n",
         "stated": f"{ASK}#> A s 2800\n#? A gap\n#> hand sync\n",
         "ways": "A gap\n#? A gap\n" * 3 + f"{ASK}#> A s 2800\n",
         "before": f"{BESIDE}#> B s 2c00\n",
         "behind": f"{BESIDE}#> B s 2800\n",
         "most": f"{CUT * 6}{PAUSE}{ASK}#> A s 2c00\n",
         "more": f"{CUT * 7}{PAUSE}{ASK}#> A s 2c00\n",
+        "whole": 'address = 5\nbroadcast = true\n[[rule]]\ndirection = "both"\nsubaddresses = "1-30"\ncounts = "1-32"\nto = "both"\n',
+        "names": "kind,value,code,name\naddress,5,,\nmode,,2,status\n",
+        **{sent.replace(" ", ""): f"# 100.5\nA c 2c61\nA gap\nslot\n#> {sent}\n"
+           for sent in ("A s 2a00", "A s 2800", "A s 3c00", "B s 2c00", "B d 0001", "A d 0001")},
+        "kept": f"A c 2c61\nA gap\nslot\n#> A s 2c08\n{ASK}#> A s 2810\n",
+        "data": "# 7\nA c 2c64\nA gap\nslot\n#> A s 2800\nslot\n#> A s 0001\n",
+        "other": "# 7\nA c 2fc1\nA gap\nslot\n#> A s 2800\nslot\n#> B d 0000\n",
+        "short": "# 7\nA c 2c60\nA gap\nslot\n#> A s 2800\nslot\n",
+        "all": "# 7\nA c f881\nA d 0001\nA gap\nslot\n#> A s 2810\n",
+        "timed": f"# 1000.25\n{ASK}",
+        "named": f"# a first message\n{ASK}",
+        "late": f"# 100\n{ASK}# 140\n# later than no response: A s 2800\n",
+        "later": f"# 100\n{ASK}A gap\n# 140\n# later than no response: A s 2800\n",
     },
     Row("a unit that gave up waiting, perhaps", "verify --any-subsystem receives gave"),
     Row("one that waited, perhaps", "verify --any-subsystem receives waited"),
     Row("one that did neither", "verify --any-subsystem receives neither", 1,
-        "neither:8: no reply is due: recorded A s 2c00; the terminal sends nothing\nneither: differences: 1\n"),
+        "neither:8: no reply is due, in RT 5 receive 1, 1 word: recorded A s 2c00; the terminal sends nothing\nneither: differences: 1\n"),
     Row("a gap that came, by a script", "verify --any-subsystem --witness receives gave", 0,
         f"{LATE.replace('#? ', '')}slot\n{ASK}"),
     Row("a gap that did not come, by a script", "verify --any-subsystem --witness receives waited", 0,
         LATE.replace("#? A gap\n", "") + f"slot\n{ASK}"),
-    Row("what else may have come", "verify --any-subsystem five slots", 2, errors="slots: script: line 5\n"),
+    Row("what else may have come", "verify --any-subsystem five mistyped", 2, errors="mistyped: script: line 5\n"),
+    Row("a unit that may have been silent", "verify --any-subsystem --summary five unheard", 0,
+        "unheard: passed (answers: 2)\nno clause: 1 of 1 scripts pass\nall: 1 of 1 scripts pass\n", f"unheard: {UNHEARD}"),
+    Row("what it did behind the next pause", "verify --any-subsystem five afresh", 1,
+        "afresh:19: another status word: reserved bit 3 is set, in RT 5 mode code 8: recorded A s 2820; the terminal sends A s 2800\nafresh: differences: 1\n",
+        f"afresh: {UNHEARD}"),
+    Row("the same, of a unit that was on", "verify --any-subsystem --already-on five afresh", 1,
+        "afresh:19: another status word: reserved bit 3 is set, in RT 5 mode code 8: recorded A s 2820; the terminal sends A s 2800\nafresh: differences: 1\n",
+        f"afresh: judged after line 16\nafresh: {UNHEARD}"),
+    Row("no word before it", "verify --any-subsystem five deaf", 3, "deaf: not judged: the script states no answer\n", f"deaf: {UNHEARD}"),
+    Row("what the subsystem did there", "verify --any-subsystem --witness five unheard", 2,
+        errors=f"unheard: {UNHEARD}unheard: recording: what the unit did is not known behind a slot in which it may have been silent\n"),
     Row("what is handed over in a gap that may have come", "verify --any-subsystem five stated", 2,
         errors="stated:6: error: the event before it cannot have this answer\n"),
     Row("gaps that may have come and do nothing", "verify --any-subsystem --summary five ways", 0,
@@ -84,19 +112,19 @@ RECORDINGS = with_files(
     Row("a long recording", "verify --any-subsystem --summary five long", 0,
         "long: passed (answers: 40000)\nno clause: 1 of 1 scripts pass\nall: 1 of 1 scripts pass\n", files={"long": LONG}),
     Row("a fault at its end", "verify --any-subsystem five long", 1,
-        "long:160003: another status word: recorded A s 2820; the terminal sends A s 2800\nlong: differences: 1\n", files={"long": LONG + FAULT}),
+        "long:160003: another status word: reserved bit 3 is set, in RT 5 mode code 2: recorded A s 2820; the terminal sends A s 2800\nlong: differences: 1\n", files={"long": LONG + FAULT}),
     Row("a line at its end that is refused", "verify --any-subsystem five long", 2,
         errors="long:160002: error: the event before it cannot have this answer\n", files={"long": f"{LONG}A c 2c02\n#> A s 2820\n"}),
     Row("a long recording that began later", "verify --any-subsystem --already-on five long", 1,
-        "long:160012: another status word: recorded A s 2820; the terminal sends A s 2800\nlong: differences: 1\n",
+        "long:160012: another status word: reserved bit 3 is set, in RT 5 mode code 2: recorded A s 2820; the terminal sends A s 2800\nlong: differences: 1\n",
         "long: judged after line 5\n", files={"long": f"{PAUSE}{AGAIN}#> A s 2800\n{LONG}{FAULT}"}),
     Row("flags that a subsystem can have", "verify --any-subsystem five flags"),
     Row("the same as a test", "verify five flags", 1,
         "flags:3: expected A s 2d00, came A s 2c00\nflags:7: expected A s 2c05, came A s 2c00\nflags: differences: 2\n"),
     Row("the first line that nothing explains", "verify --any-subsystem five reserved", 1,
-        "reserved:7: another status word: recorded A s 2820; the terminal sends A s 2800\nreserved: differences: 1\n"),
+        "reserved:7: another status word: reserved bit 3 is set, in RT 5 mode code 2: recorded A s 2820; the terminal sends A s 2800\nreserved: differences: 1\n"),
     Row("no word where one has to come", "verify --any-subsystem five silent", 1,
-        "silent:3: no reply: recorded nothing; the terminal sends A s 2800\nsilent: differences: 1\n",
+        "silent:3: no reply to RT 5 mode code 2: recorded nothing; the terminal sends A s 2800\nsilent: differences: 1\n",
         "silent: warning: the script states no answer\n"),
     Row("a word where none can come", "verify --any-subsystem five unasked", 1,
         "unasked:1: the reply is too long: recorded B d 0001; the terminal sends nothing\nunasked: differences: 1\n"),
@@ -109,12 +137,13 @@ RECORDINGS = with_files(
     Row("a mask of a hand-over in a recording", "verify --any-subsystem tests masked", 0, "", LEFT_OUT.replace("hands", "masked")),
     Row("a hand-over, by a script", "verify --any-subsystem --witness tests hands", 0, "A c 2c03\nA gap\nslot\n", LEFT_OUT),
     Row("capital digits in a recording", "verify --any-subsystem five capital", 1,
-        "capital:3: another status word: recorded A s 28ab; the terminal sends A s 2800\ncapital: differences: 1\n"),
+        "capital:3: another status word: reserved bit 1 is set, reserved bit 3 is set, busy is set, dynamic bus control acceptance is set, "
+        "terminal flag is set, in RT 5 mode code 2: recorded A s 28ab; the terminal sends A s 2800\ncapital: differences: 1\n"),
     Row("a recording and a test on the bus", "verify --any-subsystem --bus-only five flags", 3, errors="arguments: --bus-only and --any-subsystem exclude each other\n"),
     Row("the script that explains a recording", "verify --any-subsystem --witness five flags", 0,
         "flag service 1\nA c 2c61\nA gap\nslot\nflag service 0\nflag subsystem 1\nflag terminal 1\nA c 2c61\nA gap\nslot\n"),
     Row("a recording that nothing explains, by a script", "verify --any-subsystem --witness five reserved", 1,
-        "reserved:7: another status word: recorded A s 2820; the terminal sends A s 2800\nreserved: differences: 1\n"),
+        "reserved:7: another status word: reserved bit 3 is set, in RT 5 mode code 2: recorded A s 2820; the terminal sends A s 2800\nreserved: differences: 1\n"),
     Row("no recording, by a script", "verify --any-subsystem --witness five acts", 2,
         errors="acts:2: error: what the subsystem does is not seen in a recording\n"),
     Row("a test, by a script", "verify --witness five flags", 3, errors="arguments: --witness is for --any-subsystem\n"),
@@ -124,9 +153,9 @@ RECORDINGS = with_files(
     Row("a folder of profiles and a script", "verify --any-subsystem --witness --profiles . flags", 3, errors="arguments: --witness takes one profile and one script\n"),
     Row("a report and a script", "verify --any-subsystem --witness --format json five flags", 3, errors="arguments: --witness excludes --summary and the formats but text\n"),
     Row("a unit that was on", "verify --any-subsystem --already-on five on", errors="on: judged after line 9\n"),
-    Row("the same from power-up", "verify --any-subsystem five on", 1, "on:3: another status word: recorded A s 2d04; the terminal sends A s 2800\non: differences: 1\n"),
+    Row("the same from power-up", "verify --any-subsystem five on", 1, "on:3: another status word: message error is set, service request is set, subsystem flag is set, in RT 5 mode code 2: recorded A s 2d04; the terminal sends A s 2800\non: differences: 1\n"),
     Row("a line that nothing explains, whatever came before", "verify --any-subsystem --already-on five worse", 1,
-        "worse:8: another status word: recorded A s 2820; the terminal sends A s 2800\nworse: differences: 1\n",
+        "worse:8: another status word: reserved bit 3 is set, in RT 5 mode code 5: recorded A s 2820; the terminal sends A s 2800\nworse: differences: 1\n",
         "worse: judged after line 5\n"),
     Row("a part that asks for an earlier status", "verify --any-subsystem --already-on five back", errors="back: judged after line 14\n"),
     Row("a transmitter that was shut down", "verify --any-subsystem --already-on five shut", 3,
@@ -137,7 +166,7 @@ RECORDINGS = with_files(
     Row("no pause, by a script", "verify --any-subsystem --already-on --witness five flags", 3,
         "flags: not judged: no part begins afresh after a pause\n"),
     Row("no pause, in a summary", "verify --any-subsystem --already-on --summary five flags on worse", 1,
-        "flags: not judged: no part begins afresh after a pause\non: passed (answers: 2)\nworse:8: another status word: recorded A s 2820; the terminal sends A s 2800\n"
+        "flags: not judged: no part begins afresh after a pause\non: passed (answers: 2)\nworse:8: another status word: reserved bit 3 is set, in RT 5 mode code 5: recorded A s 2820; the terminal sends A s 2800\n"
         "worse: differences: 1\nno clause: 1 of 3 scripts pass, 1 not judged\nall: 1 of 3 scripts pass, 1 not judged\n",
         "on: judged after line 9\nworse: judged after line 5\n"),
     Row("a pause at the end", "verify --any-subsystem --already-on five ends", 3,
@@ -153,7 +182,45 @@ RECORDINGS = with_files(
         "off: judged after line 5\n"),
     Row("a data word that is left open", "verify --any-subsystem sends open"),
     Row("one that cannot come", "verify --any-subsystem sends withheld", 1,
-        "withheld:5: the reply is too long: recorded A d ....; the terminal sends nothing\nwithheld: differences: 1\n"),
+        "withheld:5: the reply is too long, in RT 5 transmit 3, 1 word: recorded A d ....; the terminal sends nothing\nwithheld: differences: 1\n"),
+    Row("another status word, by its bits", "verify --any-subsystem five As2a00 As2800 kept", 1,
+        "As2a00:4: another status word: message error is not set, instrumentation is set, in RT 5 transmit 3, 1 word at 100.5: "
+        "recorded A s 2a00; the terminal sends A s 2c00\nAs2a00: differences: 1\n"
+        "As2800:4: another status word: message error is not set, in RT 5 transmit 3, 1 word at 100.5: "
+        "recorded A s 2800; the terminal sends A s 2c00\nAs2800: differences: 1\n"
+        "kept:7: another status word: message error is not set, broadcast command received is set, busy is not, in RT 5 mode code 2: "
+        "recorded A s 2810; the terminal sends A s 2c08\nkept: differences: 1\n"),
+    Row("another address, bus and kind", "verify --any-subsystem five As3c00 Bs2c00 Bd0001 Ad0001", 1,
+        "As3c00:4: another address: 7, in RT 5 transmit 3, 1 word at 100.5: recorded A s 3c00; the terminal sends A s 2c00\n"
+        "As3c00: differences: 1\n"
+        "Bs2c00:4: the reply is on the other bus, in RT 5 transmit 3, 1 word at 100.5: recorded B s 2c00; the terminal sends A s 2c00\n"
+        "Bs2c00: differences: 1\n"
+        "Bd0001:4: the reply is on the other bus, in RT 5 transmit 3, 1 word at 100.5: recorded B d 0001; the terminal sends A s 2c00\n"
+        "Bd0001: differences: 1\n"
+        "Ad0001:4: a data word in place of a status word, in RT 5 transmit 3, 1 word at 100.5: recorded A d 0001; the terminal sends A s 2c00\n"
+        "Ad0001: differences: 1\n"),
+    Row("data words", "verify --any-subsystem whole data other short", 1,
+        "data:6: a status word in place of a data word, in RT 5 transmit 3, 4 words at 7: recorded A s 0001; the terminal sends A d 0000\n"
+        "data: differences: 1\n"
+        "other:6: the reply is on the other bus, in RT 5 transmit 30, 1 word at 7: recorded B d 0000; the terminal sends A d 0000\n"
+        "other: differences: 1\n"
+        "short:6: the reply is too short, in RT 5 transmit 3, 32 words at 7: recorded nothing; the terminal sends A d 0000\n"
+        "short: differences: 1\n"),
+    Row("a reply to a broadcast", "verify --any-subsystem whole all", 1,
+        "all:5: no reply is due, in all RT receive 4, 1 word at 7: recorded A s 2810; the terminal sends nothing\nall: differences: 1\n"),
+    Row("a comment that is a time, and one that is none", "verify --any-subsystem five timed named", 1,
+        "timed:4: no reply to RT 5 mode code 2 at 1000.25: recorded nothing; the terminal sends A s 2800\ntimed: differences: 1\n"
+        "named:4: no reply to RT 5 mode code 2: recorded nothing; the terminal sends A s 2800 # a first message\nnamed: differences: 1\n",
+        "timed: warning: the script states no answer\nnamed: warning: the script states no answer\n"),
+    Row("the name of a message", "verify --any-subsystem --names names five timed As2800", 1,
+        'timed:4: "status": no reply at 1000.25: recorded nothing; the terminal sends A s 2800\ntimed: differences: 1\n'
+        "As2800:4: another status word: message error is not set, in RT 5 transmit 3, 1 word at 100.5: "
+        "recorded A s 2800; the terminal sends A s 2c00\nAs2800: differences: 1\n",
+        "timed: warning: the script states no answer\n"),
+    Row("a reply that came too late", "verify --any-subsystem five late later", 1,
+        "late:4: the reply is too late, in RT 5 mode code 2 at 100: recorded nothing; the terminal sends A s 2800\nlate: differences: 1\n"
+        "later:4: no reply to RT 5 mode code 2 at 100: recorded nothing; the terminal sends A s 2800\nlater: differences: 1\n",
+        "late: warning: the script states no answer\nlater: warning: the script states no answer\n"),
     Row("any subsystem without results", "acceptance --any-subsystem five", 3, errors="arguments: --format junit and html, --any-subsystem and --date are for --against\n"),
     Row("a recording that ends early", "verify --any-subsystem five early", 2, errors=ENDS_EARLY),
     Row("one that ends early, as a test", "verify five early", 2, errors=ENDS_EARLY),
@@ -165,7 +232,7 @@ RECORDINGS = with_files(
         errors="long:160001: error: the recording ends early: a row of its table was refused\n", files={"long": LONG + EARLY_END}),
     Row("a shell's line in a recording", "verify --any-subsystem five shell"),
     Row("several recordings", "verify --any-subsystem --summary five flags reserved acts", 2,
-        "flags: passed (answers: 2)\nreserved:7: another status word: recorded A s 2820; the terminal sends A s 2800\nreserved: differences: 1\nno clause: 1 of 3 scripts pass\n"
+        "flags: passed (answers: 2)\nreserved:7: another status word: reserved bit 3 is set, in RT 5 mode code 2: recorded A s 2820; the terminal sends A s 2800\nreserved: differences: 1\nno clause: 1 of 3 scripts pass\n"
         "all: 1 of 3 scripts pass\n",
         "acts:2: error: what the subsystem does is not seen in a recording\n"),
 )
@@ -224,7 +291,7 @@ SHOWN = with_files(
 
 # what `recording` makes of the tables of a monitor
 TIED = (
-    "table: row 3, column 1: a word of this row and one above, on the other bus, end within 1 microsecond, and what the terminal does depends "
+    "table: row 3, column 1: a word of this row and one above, on the other bus, end within what their times leave open, and what the terminal does depends "
     "on their order; rows written: 1\n"
 )
 HEAD = "time,bus,sync,word\n"
@@ -351,7 +418,7 @@ TABLES = with_files(
         "order.csv: table: row 3, column 1: earlier than the row above; rows written: 1\n"),
     Row("no table", "recording none.csv --address 5", 4, errors="file: cannot read none.csv: no such file\n"),
     Row("an address beyond 30", "recording words.csv --address 31", 3, errors="arguments: --address is 0 to 30\n"),
-    Row("a gap that is no time", "recording words.csv --address 5 --gap 1us", 3, errors="arguments: --gap, --no-response and --pause are in microseconds, as 4.5\n"),
+    Row("a gap that is no time", "recording words.csv --address 5 --gap 1us", 3, errors="arguments: --gap, --no-response, --pause, --after-reset and --after-self-test are in microseconds, as 4.5\n"),
 )
 
 
