@@ -50,7 +50,12 @@ pub fn infer_profile<R: Files + AllocGlobal + Eprint, W: Write>(
     warn_of_hand_overs(rt, asked.script, script.text.as_slice())?;
     let found = match infer(rt.alloc(), asked.address, unseen, recording.as_slice()) {
         Ok(found) => found,
-        Err(fault) => return Err(recording_fault(rt, asked.script, &script, RecordingFault::from(fault))),
+        Err(fault) => return Err(recording_fault(
+            rt,
+            asked.script,
+            &script,
+            RecordingFault::from(fault),
+        )),
     };
     let Some(text) = found else {
         let states_word = recording.iter().any(|it| it.sighting.sent.is_some());

@@ -398,7 +398,9 @@ fn tell_judged<R: AllocGlobal + Eprint>(
     }
     if it.silences > 0 {
         let slots = it.silences;
-        let _ = eprintln!(rt; "{name}: slots in which the unit may be silent: {slots}; behind each nothing is judged up to the next pause");
+        let _ = eprintln!(rt;
+            "{name}: slots in which the unit may be silent: {slots}; behind each nothing is judged up to the next pause"
+        );
     }
     Ok(())
 }
@@ -579,7 +581,8 @@ pub fn verify_scripts<R: Files + AllocGlobal + Eprint, W: Write>(
 }
 
 /// Why no script explains a recording in which the unit may have been silent.
-const UNKNOWN: &str = "recording: what the unit did is not known behind a slot in which it may have been silent";
+const UNKNOWN: &str =
+    "recording: what the unit did is not known behind a slot in which it may have been silent";
 
 /// Writes a script that explains a recording: what is seen there, and before it what the subsystem did. Where nothing explains it, the
 /// first line that is not explained is written in its place, or that nothing is judged, as by `verify_scripts`.

@@ -40,8 +40,7 @@ returns-clause-judged g c =
     reads_then (left_in g.B.Read.remaining c.args.reader.now.script) (left_in g.B.Read.remaining c.sightings.reader.script) (left_in g.B.Read.remaining c.next.new.self.script) c.next.new.self.silence i.0 i.2
     (c.in_ok-marked.ensures.ended c.in_default.is)
     (λ events are P reached.
-    let alike = set_up_alike v c.setup.result P c.setup.ensures.normal c.setup.ensures.parts c.setup.result.own_address reached in
-    (
+    let alike = set_up_alike v c.setup.result P c.setup.ensures.normal c.setup.ensures.parts c.setup.result.own_address reached in (
       maybe_in i.0,
       judged_first events i.0 c.in_ok-end.field-0 _ P Q alike are c.in_ok-first_told.ensures (c.in_ok-end.ensures.first Q [] i.0 (i.1 Q c.in_ok-watch.ensures)),
       refl,

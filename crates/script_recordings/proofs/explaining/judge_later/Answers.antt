@@ -25,7 +25,7 @@ sightings-preserved g c =
           (subst (λ o. NextSeen (left_in g.B.Read.remaining c.sightings.reader.script) (left_in g.B.Read.remaining c.next.new.self.script) (Ok o)) c.in-Some.is c.in_ok-marked.ensures.next),
       c.in_ok-take.ensures i.0 i.3,
       let fewer = subst (λ o. IfSome o (λ _. turns_left c.next.new.self.script < turns_left c.sightings.reader.script)) c.in-Some.is c.in_ok-marked.ensures.fewer in
-      omega (arith, fewer, i.4),
+          omega (arith, fewer, i.4),
     )
 
 pub returns-clause-fewer : goal.returns-clause-fewer
