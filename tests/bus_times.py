@@ -765,6 +765,81 @@ def judged(tool, folder, seed, one, form):
     return VERDICTS[said.status], (said.output + said.errors).decode()
 
 
+# ---- what a table leaves open that hides a fault
+
+
+def is_word(item):
+    """Whether this item of a script is a word that was heard or sent, or noise."""
+    return not item.removeprefix("#? ").endswith(("gap", "slot"))
+
+
+def items_of(script):
+    """What a script has: words, `A s 2800` for one that the unit sent, and gaps and silent slots, which may be open."""
+    items = []
+    for line in script.splitlines():
+        if line.startswith("#> "):
+            items[-1] = line
+        elif line and not line.startswith("# "):
+            items.append(line)
+    return items
+
+
+def true_items(run):
+    """The same of what the unit saw and sent."""
+    items = []
+    for seen in run.log:
+        kind, *rest = seen.event
+        if seen.sent:
+            items.append(f"#> {seen.sent[1]} {seen.sent[0][0]} {seen.sent[2]:04x}")
+        elif kind == "word":
+            items.append(f"{rest[0]} {rest[1][0]} {rest[1][1]:04x}")
+        else:
+            items.append(" ".join((*rest, kind)))
+    return items
+
+
+def stretches(items):
+    """The words of a script, and what comes before each and behind the last."""
+    words, between = [], [[]]
+    for item in items:
+        if is_word(item):
+            words.append(item)
+            between.append([])
+        else:
+            between[-1].append(item)
+    return words, between
+
+
+def script_text(words, between):
+    """The script of words and what comes between them."""
+    items = [it for pair in itertools.zip_longest(between, ([it] for it in words), fillvalue=[]) for part in pair for it in part]
+    return "".join(f"slot\n{it}\n" if it.startswith("#> ") else f"{it}\n" for it in items)
+
+
+def with_slots(told, true):
+    """What comes between two words, with the silent slots that truly were there."""
+    return told if any("slot" in it for it in told) else [*told, *(it for it in true if it == "slot")]
+
+
+def with_gaps(told, true):
+    """The same, with the gaps that truly came."""
+    return [it for it in true if it != "slot" or any("slot" in it for it in told)]
+
+
+def hidden_by(tool, folder, one):
+    """What a script leaves open of a run with a fault that passes: `slots` that it does not state, `gaps` that may have come, `both`, or the
+    `order` of words; nothing where it fails with all of these as they were."""
+    words, told = stretches(items_of((folder / "script").read_text(encoding="ascii")))
+    true_words, true = stretches(true_items(one))
+    if words != true_words:
+        return "order"
+    for name, change in {"slots": with_slots, "gaps": with_gaps, "both": lambda _, true: true}.items():
+        write_files(folder, {"script": script_text(words, [change(*it) for it in zip(told, true)])})
+        if run(tool, "verify", "--any-subsystem", f"{one.setup.address // 2}.toml", "script", folder=folder).status == 1:
+            return name
+    return ""
+
+
 def explained(one):
     """Whether some behaviour of the subsystem explains what the unit saw and sent, in the true order."""
     recording = recording_of(one)
@@ -775,9 +850,9 @@ def explained(one):
 
 
 def counted(tool, seeds, fault):
-    """The verdicts of these seeds, by form, mode and what is left open, or with a fault by form and whether it is explained; and the
-    conforming units that fail."""
-    counts, failures = collections.Counter(), []
+    """The verdicts of these seeds, by form, mode and what is left open, or with a fault by form and whether it is explained; the
+    conforming units that fail; and what hides the faults that pass in tables of words."""
+    counts, failures, hidden = collections.Counter(), [], collections.Counter()
     with tempfile.TemporaryDirectory() as folder:
         write_profiles(folder)
         for seed, form in itertools.product(seeds, FORMS):
@@ -787,9 +862,11 @@ def counted(tool, seeds, fault):
                 left = left_open(one, form, resolution_of(seed))
                 kind = one.mode if not fault else "explained" if explained(one) else "a fault"
                 counts[form, kind, left or "clear", said[0]] += 1
+                if kind == "a fault" and said[0] == "passed" and form == "words":
+                    hidden[hidden_by(tool, pathlib.Path(folder), one) or f"nothing: {seed}"] += 1
                 if said[0] == "failed" and not fault:
                     failures.append((seed, form, one.mode, left, resolution_of(seed), said[1].splitlines()[0]))
-    return counts, failures
+    return counts, failures, hidden
 
 
 def lines_of(counts):
@@ -803,8 +880,8 @@ def lines_of(counts):
 def count(tool, tables="1600", first="0", fault=""):
     seeds = range(int(first), int(first) + int(tables))
     for name in FAULTS if fault == "all" else [fault]:
-        counts, failures = counted(pathlib.Path(tool).resolve(), seeds, name)
-        print(name or "conforming units", *lines_of(counts), *failures, sep="\n", flush=True)
+        counts, failures, hidden = counted(pathlib.Path(tool).resolve(), seeds, name)
+        print(name or "conforming units", *lines_of(counts), *failures, *hidden.items(), sep="\n", flush=True)
 
 
 def table(seed, form="words", fault=""):

@@ -214,23 +214,33 @@ def word_fault(recorded, sent):
     return f"another status word: {bits_told(bits, bits_sent)}" if bits >> 11 == bits_sent >> 11 else f"another address: {bits >> 11}"
 
 
-def slot_fault(recorded, sent):
-    """What is wrong with a unit that sent one word, or none, where the terminal sends another, or none."""
+def too_short(recording, command):
+    """By how much the reply to a command is too short that ends in the last of some sightings."""
+    kinds = "".join(sent[0][0] for _, sent in recording if sent)
+    due = 1 if command >> 5 & 31 in (0, 31) else command & 31 or 32
+    missing = due - (len(kinds) - kinds.rindex("s") - 1)
+    return f"the reply is too short by {missing} word{'s' if missing != 1 else ''}"
+
+
+def slot_fault(recording, sent, command):
+    """What is wrong with a unit in the last of some sightings of a message, where the terminal sends a word, or none."""
+    recorded = recording[-1][1]
     if recorded and sent:
         return word_fault(recorded, sent)
     if recorded:
         return "no reply is due" if recorded[0] == "status" else "the reply is too long"
-    return "no reply" if sent[0] == "status" else "the reply is too short"
+    return "no reply" if sent[0] == "status" else too_short(recording, command)
 
 
-def message_told(recording, address):
-    """The message to which the last of some sightings belongs, in the words of a test bench; None before the first command to this address or to
-    all terminals."""
+def command_of(recording, address):
+    """The command of the message to which the last of some sightings belongs; None before the first to this address or to all terminals."""
     words = [event[2] for event, _ in recording if event[0] == "word"]
     commands = [word[1] for word in words if rules.is_valid(word) and word[0] == "c" and word[1] >> 11 in (address, 31)]
-    if not commands:
-        return None
-    command = commands[-1]
+    return commands[-1] if commands else None
+
+
+def message_told(command, address):
+    """The message of a command, in the words of a test bench."""
     subaddress, low = command >> 5 & 31, command & 31
     to = "all RT" if command >> 11 == 31 else f"RT {address}"
     if subaddress in (0, 31):
@@ -238,10 +248,11 @@ def message_told(recording, address):
     return f"{to} {'transmit' if command >> 10 & 1 else 'receive'} {subaddress}, {low or 32} word{'s' if low != 1 else ''}"
 
 
-def fault_told(recording, recorded, sent, address):
+def fault_told(recording, sent, address):
     """What is wrong with a unit in the last of some sightings, and in which message."""
-    fault, message = slot_fault(recorded, sent), message_told(recording, address)
-    return fault + (f"{' to' if fault == 'no reply' else ', in'} {message}" if message else "")
+    command = command_of(recording, address)
+    fault = slot_fault(recording, sent, command)
+    return fault if command is None else f"{fault}{' to' if fault == 'no reply' else ', in'} {message_told(command, address)}"
 
 
 def check_told(judge, setup, recording, name, numbers, told, before=()):
@@ -255,7 +266,7 @@ def check_told(judge, setup, recording, name, numbers, told, before=()):
     found = re.fullmatch("(.*?): (.*): recorded (.*); the terminal sends (.*)", told[0]) if told else None
     assert found and [found[1], found[3], *told[1:]] == [f"{name}:{numbers[count]}", stated(sent), f"{name}: differences: 1"], told
     assert explains([*recording[:count], (event, sent_of(found[4]))]) == count + 1, f"{name}: this can't come: {found[4]}"
-    assert found[2] == fault_told([*before, *recording[: count + 1]], sent, sent_of(found[4]), setup.address), told
+    assert found[2] == fault_told([*before, *recording[: count + 1]], sent_of(found[4]), setup.address), told
 
 
 def verified(tool, folder, names, *options):

@@ -79,6 +79,8 @@ RECORDINGS = with_files(
         "named": f"# a first message\n{ASK}",
         "late": f"# 100\n{ASK}# 140\n# later than no response: A s 2800\n",
         "later": f"# 100\n{ASK}A gap\n# 140\n# later than no response: A s 2800\n",
+        "latest": f"# 100\n{ASK}# 140\n# later than no response by 8 us: A s 2800\n",
+        "shorter": "# 7\nA c 2c62\nA gap\nslot\n#> A s 2800\nslot\n#> A d 0001\nslot\n",
     },
     Row("a unit that gave up waiting, perhaps", "verify --any-subsystem receives gave"),
     Row("one that waited, perhaps", "verify --any-subsystem receives waited"),
@@ -199,13 +201,15 @@ RECORDINGS = with_files(
         "Bd0001: differences: 1\n"
         "Ad0001:4: a data word in place of a status word, in RT 5 transmit 3, 1 word at 100.5: recorded A d 0001; the terminal sends A s 2c00\n"
         "Ad0001: differences: 1\n"),
-    Row("data words", "verify --any-subsystem whole data other short", 1,
+    Row("data words", "verify --any-subsystem whole data other short shorter", 1,
         "data:6: a status word in place of a data word, in RT 5 transmit 3, 4 words at 7: recorded A s 0001; the terminal sends A d 0000\n"
         "data: differences: 1\n"
         "other:6: the reply is on the other bus, in RT 5 transmit 30, 1 word at 7: recorded B d 0000; the terminal sends A d 0000\n"
         "other: differences: 1\n"
-        "short:6: the reply is too short, in RT 5 transmit 3, 32 words at 7: recorded nothing; the terminal sends A d 0000\n"
-        "short: differences: 1\n"),
+        "short:6: the reply is too short by 32 words, in RT 5 transmit 3, 32 words at 7: recorded nothing; the terminal sends A d 0000\n"
+        "short: differences: 1\n"
+        "shorter:8: the reply is too short by 1 word, in RT 5 transmit 3, 2 words at 7: recorded nothing; the terminal sends A d 0000\n"
+        "shorter: differences: 1\n"),
     Row("a reply to a broadcast", "verify --any-subsystem whole all", 1,
         "all:5: no reply is due, in all RT receive 4, 1 word at 7: recorded A s 2810; the terminal sends nothing\nall: differences: 1\n"),
     Row("a comment that is a time, and one that is none", "verify --any-subsystem five timed named", 1,
@@ -217,10 +221,11 @@ RECORDINGS = with_files(
         "As2800:4: another status word: message error is not set, in RT 5 transmit 3, 1 word at 100.5: "
         "recorded A s 2800; the terminal sends A s 2c00\nAs2800: differences: 1\n",
         "timed: warning: the script states no answer\n"),
-    Row("a reply that came too late", "verify --any-subsystem five late later", 1,
+    Row("a reply that came too late", "verify --any-subsystem five late later latest", 1,
         "late:4: the reply is too late, in RT 5 mode code 2 at 100: recorded nothing; the terminal sends A s 2800\nlate: differences: 1\n"
-        "later:4: no reply to RT 5 mode code 2 at 100: recorded nothing; the terminal sends A s 2800\nlater: differences: 1\n",
-        "late: warning: the script states no answer\nlater: warning: the script states no answer\n"),
+        "later:4: no reply to RT 5 mode code 2 at 100: recorded nothing; the terminal sends A s 2800\nlater: differences: 1\n"
+        "latest:4: the reply is too late by 8 us, in RT 5 mode code 2 at 100: recorded nothing; the terminal sends A s 2800\nlatest: differences: 1\n",
+        "".join(f"{name}: warning: the script states no answer\n" for name in ("late", "later", "latest"))),
     Row("any subsystem without results", "acceptance --any-subsystem five", 3, errors="arguments: --format junit and html, --any-subsystem and --date are for --against\n"),
     Row("a recording that ends early", "verify --any-subsystem five early", 2, errors=ENDS_EARLY),
     Row("one that ends early, as a test", "verify five early", 2, errors=ENDS_EARLY),
@@ -382,7 +387,7 @@ TABLES = with_files(
         "# 0\nA c 2862\nA c 3462\nA gap\nslot\n#? A gap\n# 60\nA c 2c02\nA gap\nslot\n#> A s 2c00\nA gap\nslot\n"),
     Row("a pause that is too short", "recording messages.csv --address 5 --pause 59.9", 3, errors="arguments: --pause is at least 60 microseconds\n"),
     Row("a reply that is too late", "recording late.csv --address 5", 0,
-        "# 0\nA c 2c02\nA gap\n# 24\nslot\n#> A s 2800\nA gap\nslot\n# 100\nA c 2c02\nA gap\nslot\n# 140\n# later than no response: A s 2800\n"),
+        "# 0\nA c 2c02\nA gap\n# 24\nslot\n#> A s 2800\nA gap\nslot\n# 100\nA c 2c02\nA gap\nslot\n# 140\n# later than no response by 8 us: A s 2800\n"),
     Row("the same, with more time", "recording late.csv --address 5 --no-response 25.5", 0,
         "# 0\nA c 2c02\nA gap\n# 24\nslot\n#> A s 2800\nA gap\nslot\n# 100\nA c 2c02\nA gap\n# 140\nslot\n#> A s 2800\nA gap\nslot\n"),
     Row("a longer gap", "recording words.csv --address 5 --gap 5", 0, "# 0\nA c 2c02\n# 24\nslot\n#> A s 2800\nA gap\nslot\n"),

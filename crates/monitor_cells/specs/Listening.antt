@@ -87,7 +87,7 @@ may_be_deaf (Some until) time = nat_le time until
 -- it is a word of the terminal
 abbrev pub is_own_word : HeardItem → Bool
 is_own_word (heard.Reply sent) = true
-is_own_word (heard.Late sent) = true
+is_own_word (heard.Late sent late) = true
 is_own_word _ = false
 
 -- it is a word of its reply
@@ -97,7 +97,7 @@ is_reply _ = false
 
 -- it was not too late
 abbrev pub counts : HeardItem → Bool
-counts (heard.Late sent) = false
+counts (heard.Late sent late) = false
 counts _ = true
 
 -- when a word that begins at this time is heard, or sent
@@ -135,11 +135,16 @@ speaker_with setup last time Command bits = Another
 speaker_with setup last time Data bits = speaker_at setup last time
 speaker_with setup last time Status bits = if address_of bits == setup.address then speaker_of (has_passed (end_of_word last) setup.no_response time) else Another
 
--- a word of this speaker
-abbrev pub heard_by : Speaker → Bus → WordSync → ℕ → HeardItem
-heard_by Another bus sync bits = heard.Word bus sync bits
-heard_by Terminal bus sync bits = heard.Reply (record { bus = bus; kind = kind_of_sync sync; bits = bits })
-heard_by LateTerminal bus sync bits = heard.Late (record { bus = bus; kind = kind_of_sync sync; bits = bits })
+-- by how much the silence before a word that begins at this time is too long for a reply; 0 where it is not
+abbrev pub late_by : RecordingSetup → Option LastWord → ℕ → ℕ
+late_by setup None time = 0
+late_by setup (Some w) time = time - word_end w.begin - setup.no_response
+
+-- a word of this speaker, who is late by so much, if at all
+abbrev pub heard_by : Speaker → ℕ → Bus → WordSync → ℕ → HeardItem
+heard_by Another late bus sync bits = heard.Word bus sync bits
+heard_by Terminal late bus sync bits = heard.Reply (record { bus = bus; kind = kind_of_sync sync; bits = bits })
+heard_by LateTerminal late bus sync bits = heard.Late (record { bus = bus; kind = kind_of_sync sync; bits = bits }) late
 
 -- who speaks on the bus of a row, after its word
 abbrev pub speaker_seen : RecordingSetup → Option LastWord → ℕ → SeenWord → Speaker
@@ -149,7 +154,7 @@ speaker_seen setup last time (seen.Valid sync bits) = speaker_with setup last ti
 -- what is heard as the word of a row
 abbrev pub heard_seen : RecordingSetup → Option LastWord → ℕ → Bus → SeenWord → HeardItem
 heard_seen setup last time bus seen.Noise = heard.Noise bus
-heard_seen setup last time bus (seen.Valid sync bits) = heard_by (speaker_with setup last time sync bits) bus sync bits
+heard_seen setup last time bus (seen.Valid sync bits) = heard_by (speaker_with setup last time sync bits) (late_by setup last time) bus sync bits
 
 -- ---- messages to the terminal
 

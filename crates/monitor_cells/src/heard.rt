@@ -18,8 +18,8 @@ pub enum HeardItem {
     Noise(Bus),
     /// A word that the terminal sent: a part of its reply.
     Reply(Sent),
-    /// A word that the terminal sent too late for a reply.
-    Late(Sent),
+    /// A word that the terminal sent too late for a reply, and by how many nanoseconds the silence before it was too long.
+    Late(Sent, u64),
     /// A slot in which the terminal sends nothing.
     Slot,
     /// A slot in which the terminal may be silent, since it may not have heard the message.

@@ -1,6 +1,6 @@
 //! What is heard on two buses, by the last word on each.
 ghost use Rattle.std.specs.Prelude.{◌≡◌};
-ghost use Rattle.monitor_cells.specs.Listening.{word_end, has_passed, has_lasted, later_end, recovery_of, recovered_at, may_be_deaf, was_unheard, is_unheard_behind, recovery_behind, recovery_from, may_be_silent_on, is_unheard_on, is_any_command, ends_unheard, is_over_before, is_before_end, is_own_word, is_reply, counts, heard_time, end_of_word, time_of, silent_since, speaker_of, speaker_at, speaker_with, heard_by, speaker_seen, heard_seen, is_meant_for, is_contiguous, is_open_at, is_open_behind, last_on, with_last, listening_first, latest_time, row_heard, row_last, row_known, row_time, is_own_row, is_open_row, is_command_row, end_on, is_open_last, is_open_on, is_command_for, was_command_for, becomes_longer, falls_silent, may_be_gap, was_unclear_gap, is_unclear_gap, is_pause_before, is_silent_reply, is_reply_over, has_slot_on, gives_up, may_give_up, other_until, first_gap_on, other_gap_on, second_on, maybe_on, silence_before, last_silence};
+ghost use Rattle.monitor_cells.specs.Listening.{word_end, has_passed, has_lasted, later_end, recovery_of, recovered_at, may_be_deaf, was_unheard, is_unheard_behind, recovery_behind, recovery_from, may_be_silent_on, is_unheard_on, is_any_command, ends_unheard, is_over_before, is_before_end, is_own_word, is_reply, counts, heard_time, end_of_word, time_of, silent_since, speaker_of, speaker_at, speaker_with, late_by, heard_by, speaker_seen, heard_seen, is_meant_for, is_contiguous, is_open_at, is_open_behind, last_on, with_last, listening_first, latest_time, row_heard, row_last, row_known, row_time, is_own_row, is_open_row, is_command_row, end_on, is_open_last, is_open_on, is_command_for, was_command_for, becomes_longer, falls_silent, may_be_gap, was_unclear_gap, is_unclear_gap, is_pause_before, is_silent_reply, is_reply_over, has_slot_on, gives_up, may_give_up, other_until, first_gap_on, other_gap_on, second_on, maybe_on, silence_before, last_silence};
 
 use crate::cells::{WordSync, kind_of_sync};
 use crate::heard::{HeardItem, is_command_sync, other_bus};
@@ -134,7 +134,7 @@ pub fn is_meant_for(address: u8, bits: u16) -> bool
 fn is_own_word(heard: &HeardItem) -> bool
     ensures { result ≡ is_own_word heard.now }
 {
-    matches!(heard, HeardItem::Reply(_) | HeardItem::Late(_))
+    matches!(heard, HeardItem::Reply(_) | HeardItem::Late(..))
 }
 
 /// Whether it is a word of its reply.
@@ -148,7 +148,7 @@ fn is_reply(heard: &HeardItem) -> bool
 fn counts(heard: &HeardItem) -> bool
     ensures { result ≡ counts heard.now }
 {
-    !matches!(heard, HeardItem::Late(_))
+    !matches!(heard, HeardItem::Late(..))
 }
 
 /// When a word that begins at this time is heard, or sent.
@@ -250,15 +250,15 @@ fn speaker_of(is_late: bool) -> Speaker
     }
 }
 
-/// What is heard as a word of this speaker.
-fn heard_by(speaker: Speaker, bus: Bus, sync: WordSync, bits: u16) -> HeardItem
-    ensures { result ≡ heard_by speaker bus sync bits }
+/// What is heard as a word of this speaker, who is late by so much, if at all.
+fn heard_by(speaker: Speaker, late: u64, bus: Bus, sync: WordSync, bits: u16) -> HeardItem
+    ensures { result ≡ heard_by speaker late bus sync bits }
 {
     let kind = kind_of_sync(sync);
     match speaker {
         Speaker::Another => HeardItem::Word(bus, sync, bits),
         Speaker::Terminal => HeardItem::Reply(Sent { bus, kind, bits }),
-        Speaker::LateTerminal => HeardItem::Late(Sent { bus, kind, bits }),
+        Speaker::LateTerminal => HeardItem::Late(Sent { bus, kind, bits }, late),
     }
 }
 
@@ -308,6 +308,18 @@ impl RecordingSetup {
         }
     }
 
+    /// By how many nanoseconds the silence before a word that begins at this time is too long for a reply; 0 where it is not.
+    fn late_by(&self, last: &Option<LastWord>, time: u64) -> u64
+        ensures { result ≡ late_by self.now last.now time }
+    {
+        match last {
+            Some(word) => time
+                .saturating_sub(word_end(word.begin))
+                .saturating_sub(self.no_response),
+            None => 0,
+        }
+    }
+
     /// Who speaks after this word.
     fn speaker_seen(&self, last: &Option<LastWord>, time: u64, word: SeenWord) -> Speaker
         ensures { result ≡ speaker_seen self.now last.now time word }
@@ -326,7 +338,7 @@ impl RecordingSetup {
             SeenWord::Noise => HeardItem::Noise(bus),
             SeenWord::Valid(sync, bits) => {
                 let speaker = self.speaker_with(last, time, sync, bits);
-                heard_by(speaker, bus, sync, bits)
+                heard_by(speaker, self.late_by(last, time), bus, sync, bits)
             }
         }
     }

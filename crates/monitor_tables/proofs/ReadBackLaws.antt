@@ -1,9 +1,9 @@
 -- A recording, read back, says what was heard and the silent slots that are owed.
-use Rattle.std.proofs.Common.{ℕ, ◌≡◌, ◌∙◌, ◌+◌, ◌*◌, ◌<◌, ◌≤◌, ◌^◌, ◌==◌, ◌%◌, ◌&&◌, ◌||◌, Bool, true, false, if◌then◌else◌, List, [], ◌∷◌, ◌++◌, Option, Some, None, is_some, Result, Ok, Err, length, map, flat_map, refl, sym, ap, subst, arith, append_assoc, append-nil, length-append, codes, decimal}
+use Rattle.std.proofs.Common.{ℕ, ◌≡◌, ◌∙◌, ◌+◌, ◌*◌, ◌<◌, ◌≤◌, ◌^◌, ◌-◌, ◌/◌, ◌==◌, ◌%◌, ◌&&◌, ◌||◌, Bool, true, false, if◌then◌else◌, List, [], ◌∷◌, ◌++◌, Option, Some, None, is_some, Result, Ok, Err, length, map, flat_map, refl, sym, ap, subst, arith, append_assoc, append-nil, length-append, codes, decimal}
 use Rattle.std.specs.List.{list_all}
 use Rattle.std.proofs.lemmas.List.{map-append}
 use Rattle.std.proofs.lemmas.Bool.Decides.{nat_tests}
-use Rattle.std.proofs.lemmas.Fmt.{decimal_by_steps}
+use Rattle.std.proofs.lemmas.Fmt.{decimal_by_steps, length-decimal-le}
 use Rattle.bus_word.specs.declared.word.Bus.{Bus}
 use Rattle.bus_word.specs.declared.word.Bus.TheVariants.{A, B}
 use Rattle.bus_word.specs.declared.word.Kind.{Kind}
@@ -35,9 +35,28 @@ use Rattle.monitor_cells.specs.declared.heard.HeardItem.{HeardItem}
 use Rattle.monitor_cells.specs.declared.heard.HeardItem.TheVariants.{Gap, Word, Noise, Reply, Late, Slot, MaybeSilent, MaybeGap, Pause}
 use Rattle.monitor_cells.specs.Cells.{is_time_byte, is_time_text, kind_of_sync}
 use Rattle.monitor_tables.specs.declared.fault.RefusedRow.{RefusedRow}
-use Rattle.monitor_tables.specs.Recording.{HeardAt, time_line, heard_line, noted_text, recording_text, refused_line, event_stating, event_maybe, without_line, heard_stated, HasWords, IsNotable, AreNotable, ReadBackLaw, EarlyEndLaw}
+use Rattle.monitor_tables.specs.Recording.{HeardAt, time_line, late_line, heard_line, noted_text, recording_text, refused_line, event_stating, event_maybe, without_line, heard_stated, HasWords, IsNotable, AreNotable, ReadBackLaw, EarlyEndLaw}
 
 -- ---- one line
+
+decimal-feeds : (n : ℕ) → n < 2 ^ 64 → NoLineFeed (decimal n)
+decimal-feeds n small =
+    decimal_by_steps (λ _ ds. NoLineFeed ds) (λ n low. ((λ e. absurd (omega (arith, e))), tt))
+    (λ n ds high none. feeds-append ds ((48 + n % 10) ∷ []) none ((λ e. absurd (omega (arith, e))), tt)) n small
+
+-- a number of 64 bits
+number-line : (n : ℕ) → n < 2 ^ 64 → IsLine 20 (decimal n)
+number-line n small = record { feeds = decimal-feeds n small; short = length-decimal-le 20 n (omega arith) (omega (arith, small)) small }
+
+-- the front of the comment on a word that came too late
+late-line : (late : ℕ) → late < 2 ^ 64 → IsLine 56 (late_line late)
+late-line late small = by (late == 0)
+  where
+    by : (b : Bool) → IsLine 56 (if b then codes "# later than no response: " else codes "# later than no response by " ++ (decimal ((late - 1) / 1000 + 1) ++ codes " us: "))
+    by true = within (omega arith) (literal (codes "# later than no response: ") refl)
+    by false =
+        let number : IsLine 20 (decimal ((late - 1) / 1000 + 1)) = number-line ((late - 1) / 1000 + 1) (omega (arith, small)) in
+        within (omega arith) (joined (codes "# later than no response by ") _ (literal (codes "# later than no response by ") refl) (joined _ (codes " us: ") number (literal (codes " us: ") refl)))
 
 -- a terminal can give what was stated of the latest event
 abbrev IsGiven : Latest → Type 0
@@ -222,14 +241,18 @@ module _ (most : ℕ) where
 
   -- ---- comments
 
-  late-says : (n : ℕ) (latest : Latest) (line : List ℕ) → line_says true n latest (codes "# later than no response: " ++ line) ≡ Ok (stays latest)
+  late-says : (n : ℕ) (latest : Latest) (late : ℕ) (line : List ℕ) → line_says true n latest (late_line late ++ line) ≡ Ok (stays latest)
   unfolding meaning
-  late-says n latest line = refl
+  late-says n latest late line = by (late == 0)
+    where
+      by : (b : Bool) → line_says true n latest ((if b then codes "# later than no response: " else codes "# later than no response by " ++ (decimal ((late - 1) / 1000 + 1) ++ codes " us: ")) ++ line) ≡ Ok (stays latest)
+      by true = refl
+      by false = refl
 
-  reads-late : (n : ℕ) (w : Sending) (latest : Latest) → n < most → Read n (codes "# later than no response: " ++ sent_text w) latest [] (n + 1)
-  reads-late n w latest few =
-      let line : IsLine 64 (codes "# later than no response: " ++ word_line w) = within (omega arith) (joined (codes "# later than no response: ") (word_line w) (literal (codes "# later than no response: ") refl) (word-line w)) in
-      subst (λ text. Read n text latest [] (n + 1)) (sym (fronted (codes "# later than no response: ") w)) (reads-comment n _ latest few line (late-says (n + 1) latest (word_line w)))
+  reads-late : (n : ℕ) (w : Sending) (late : ℕ) (latest : Latest) → n < most → late < 2 ^ 64 → Read n (late_line late ++ sent_text w) latest [] (n + 1)
+  reads-late n w late latest few small =
+      let line : IsLine 64 (late_line late ++ word_line w) = within (omega arith) (joined (late_line late) (word_line w) (late-line late small) (word-line w)) in
+      subst (λ text. Read n text latest [] (n + 1)) (sym (fronted (late_line late) w)) (reads-comment n _ latest few line (late-says (n + 1) latest late (word_line w)))
 
   -- the line of a gap that may have come
   maybe-line : (bus : Bus) → IsLine 64 (codes "#? " ++ event_text (event.Gap bus))
@@ -313,7 +336,7 @@ module _ (most : ℕ) where
   reads-heard n (Word bus sync bits) latest few words = reads-later (omega arith) (reads-event n (event.Word bus (valid_word (kind_of_sync sync) bits)) latest (omega (arith, few)) words)
   reads-heard n (Noise bus) latest few words = reads-later (omega arith) (reads-event n (event.Noise bus) latest (omega (arith, few)) tt)
   reads-heard n (Reply sent) latest few words = reads-reply n (shown_word sent) latest few words
-  reads-heard n (Late sent) latest few words = reads-later (omega arith) (reads-late n (shown_word sent) latest (omega (arith, few)))
+  reads-heard n (Late sent late) latest few words = reads-later (omega arith) (reads-late n (shown_word sent) late latest (omega (arith, few)) words.1)
   reads-heard n Slot latest few words = reads-later (omega arith) (reads-event n event.Slot latest (omega (arith, few)) tt)
   reads-heard n MaybeSilent latest few words = reads-later (omega arith)
       (reads-maybe n event.Slot latest (omega (arith, few)) (within (omega arith) (literal (codes "#? slot") refl)) (silent-says (n + 1) latest))
@@ -340,11 +363,6 @@ read_back most ns are few =
     let r = all.2 in record { stated = r.stated; reads = Tells-all most (r.tells refl) (r.gives refl) ∙ ap Ok r.splits; events = r.are }
 
 -- ---- recordings that end early
-
-decimal-feeds : (n : ℕ) → n < 2 ^ 64 → NoLineFeed (decimal n)
-decimal-feeds n small =
-    decimal_by_steps (λ _ ds. NoLineFeed ds) (λ n low. ((λ e. absurd (omega (arith, e))), tt))
-    (λ n ds high none. feeds-append ds ((48 + n % 10) ∷ []) none ((λ e. absurd (omega (arith, e))), tt)) n small
 
 -- the last line, without its line feed, and behind its front
 early_rest : RefusedRow → List ℕ

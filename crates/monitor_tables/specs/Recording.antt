@@ -1,5 +1,5 @@
 -- Recordings: what was heard, as lines of a script; and that such a script, read back, says just that.
-use Rattle.std.specs.Prelude.{ℕ, ◌≡◌, ◌*◌, ◌<◌, ◌≤◌, ◌^◌, Bool, true, List, [], ◌∷◌, ◌++◌, Option, codes, decimal, length, map, flat_map, Ok, Err}
+use Rattle.std.specs.Prelude.{ℕ, ◌≡◌, ◌*◌, ◌<◌, ◌≤◌, ◌^◌, ◌+◌, ◌-◌, ◌/◌, ◌==◌, if◌then◌else◌, Bool, true, List, [], ◌∷◌, ◌++◌, Option, codes, decimal, length, map, flat_map, Ok, Err}
 use Rattle.std.specs.Io.KnownBytes.{Appends}
 use Rattle.bus_word.specs.Word.{valid_word}
 use Rattle.terminal_rules.specs.declared.event.Event.{Event}
@@ -29,13 +29,19 @@ abbrev pub time_line : List ℕ → List ℕ
 time_line [] = []
 time_line (b ∷ bs) = codes "# " ++ ((b ∷ bs) ++ codes "\n")
 
+-- that a word came later than the silence that is no response, by so many nanoseconds, which are rounded up to microseconds
+abbrev pub late_line : ℕ → List ℕ
+late_line late =
+    if late == 0 then codes "# later than no response: "
+    else codes "# later than no response by " ++ (decimal ((late - 1) / 1000 + 1) ++ codes " us: ")
+
 -- what was heard: an event, a slot with the word that the terminal sent or without any, or a comment
 abbrev pub heard_line : HeardItem → List ℕ
 heard_line (Gap bus) = event_line (event.Gap bus)
 heard_line (Word bus sync bits) = event_line (event.Word bus (valid_word (kind_of_sync sync) bits))
 heard_line (Noise bus) = event_line (event.Noise bus)
 heard_line (Reply sent) = codes "slot\n#> " ++ sent_text (shown_word sent)
-heard_line (Late sent) = codes "# later than no response: " ++ sent_text (shown_word sent)
+heard_line (Late sent late) = late_line late ++ sent_text (shown_word sent)
 heard_line Slot = event_line event.Slot
 heard_line MaybeSilent = codes "#? " ++ event_line event.Slot
 heard_line (MaybeGap bus) = codes "#? " ++ event_line (event.Gap bus)
@@ -86,7 +92,7 @@ heard_stated (Gap bus) = event_stating (event.Gap bus) [] ∷ []
 heard_stated (Word bus sync bits) = event_stating (event.Word bus (valid_word (kind_of_sync sync) bits)) [] ∷ []
 heard_stated (Noise bus) = event_stating (event.Noise bus) [] ∷ []
 heard_stated (Reply sent) = event_stating event.Slot (sent_text (shown_word sent)) ∷ []
-heard_stated (Late sent) = []
+heard_stated (Late sent late) = []
 heard_stated Slot = event_stating event.Slot [] ∷ []
 heard_stated MaybeSilent = event_maybe event.Slot ∷ []
 heard_stated (MaybeGap bus) = event_maybe (event.Gap bus) ∷ []
@@ -98,7 +104,7 @@ heard_stated Pause = event_stating event.Slot [] ∷ []
 abbrev pub HasWords : HeardItem → Type 0
 HasWords (Word bus sync bits) = bits < 2 ^ 16
 HasWords (Reply sent) = sent.bits < 2 ^ 16
-HasWords (Late sent) = sent.bits < 2 ^ 16
+HasWords (Late sent late) = (sent.bits < 2 ^ 16) × (late < 2 ^ 64)
 HasWords _ = Unit {0}
 
 -- a time is the text of one, and words have 16 bits

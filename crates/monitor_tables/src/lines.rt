@@ -6,7 +6,7 @@ ghost use Rattle.bus_terminal.specs.Answer.{shown_word};
 ghost use Rattle.script_lines.specs.EventLine.{event_line};
 ghost use Rattle.script_lines.specs.Transcript.{sent_text};
 ghost use Rattle.monitor_cells.specs.Cells.{is_time_text};
-ghost use Rattle.monitor_tables.specs.Recording.{time_line, heard_line, noted_text, refused_line, HasWords, PutsRefusal};
+ghost use Rattle.monitor_tables.specs.Recording.{time_line, late_line, heard_line, noted_text, refused_line, HasWords, PutsRefusal};
 ghost use Rattle.monitor_tables.specs.inner.Puts.{PutsNoted};
 
 use crate::fault::{EarlyEnd, RefusedRow};
@@ -49,6 +49,19 @@ fn push_sent(lines: &mut HeardLines, front: &str, sent: Sent)
     push_answer(lines, None, &Answer::Sends(sent));
 }
 
+/// Writes the comment on a word that the terminal sent too late, by so many nanoseconds.
+fn push_late(lines: &mut HeardLines, sent: Sent, late: u64)
+    requires { array_string_len lines.old ≤ 90 }
+    ensures { lines.new.bytes ≡ lines.old.bytes ++ (late_line late ++ sent_text (shown_word sent)) }
+{
+    if late == 0 {
+        return push_sent(lines, "# later than no response: ", sent);
+    }
+    lines.push_str("# later than no response by ");
+    push_number(lines, (late - 1) / 1000 + 1);
+    push_sent(lines, " us: ", sent);
+}
+
 /// Writes what was heard.
 fn push_heard(lines: &mut HeardLines, heard: &HeardItem)
     requires { array_string_len lines.old ≤ 90 }
@@ -64,7 +77,7 @@ fn push_heard(lines: &mut HeardLines, heard: &HeardItem)
         }
         HeardItem::Noise(bus) => push_event(lines, &Event::Noise(*bus)),
         HeardItem::Reply(sent) => push_sent(lines, "slot\n#> ", *sent),
-        HeardItem::Late(sent) => push_sent(lines, "# later than no response: ", *sent),
+        HeardItem::Late(sent, late) => push_late(lines, *sent, *late),
         HeardItem::Slot | HeardItem::Pause => push_event(lines, &Event::Slot),
         HeardItem::MaybeSilent => push_maybe(lines, &Event::Slot),
         HeardItem::MaybeGap(bus) => push_maybe(lines, &Event::Gap(*bus)),
@@ -101,6 +114,11 @@ fn has_16_bits(word: u16)
     ensures { word < 2 ^ 16 }
 {}
 
+/// A time has 64 bits.
+fn has_64_bits(nanos: u64)
+    ensures { nanos < 2 ^ 64 }
+{}
+
 /// Words that were heard have 16 bits.
 fn has_words(heard: &HeardItem)
     ensures { HasWords heard.now }
@@ -108,7 +126,10 @@ fn has_words(heard: &HeardItem)
     match heard {
         HeardItem::Word(_, _, bits) => has_16_bits(*bits),
         HeardItem::Reply(sent) => has_16_bits(sent.bits),
-        HeardItem::Late(sent) => has_16_bits(sent.bits),
+        HeardItem::Late(sent, late) => {
+            has_16_bits(sent.bits);
+            has_64_bits(*late);
+        }
         _ => {}
     }
 }

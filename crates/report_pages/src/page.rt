@@ -462,21 +462,10 @@ fn push_wrong_head(page: &mut String, notes: &DifferenceNotes) -> Result<(), All
     if has_messages(notes) {
         page.push_str("<th scope=\"col\">message</th>")?;
     }
-    page.push_str(if notes.rules.names.is_empty() {
-        ""
-    } else {
-        rule
-    })?;
-    page.push_str(answers)
-}
-
-/// Writes the name of a message in a field, empty for none.
-fn push_name_field(alloc: Global, page: &mut String, name: Option<&str>) -> Result<(), AllocError> {
-    page.push_str("<td>")?;
-    if let Some(name) = name {
-        push_escaped(page, quoted(alloc, name)?.as_str())?;
+    if !notes.rules.names.is_empty() {
+        page.push_str(rule)?;
     }
-    page.push_str("</td>")
+    page.push_str(answers)
 }
 
 /// Writes a field.
@@ -484,6 +473,14 @@ fn push_field(page: &mut String, field: &str) -> Result<(), AllocError> {
     page.push_str("<td>")?;
     push_escaped(page, field)?;
     page.push_str("</td>")
+}
+
+/// Writes the name of a message in a field, empty for none.
+fn push_name_field(alloc: Global, page: &mut String, name: Option<&str>) -> Result<(), AllocError> {
+    match name {
+        Some(name) => push_field(page, quoted(alloc, name)?.as_str()),
+        None => push_field(page, ""),
+    }
 }
 
 /// Whether the message of each event has a field: where there are names, and in a recording.
@@ -523,13 +520,13 @@ fn push_fault(
     page: &mut String,
     wording: Wording,
     one: &WrongAnswer,
-    is_late: bool,
+    reply: ReplyShown<'_>,
 ) -> Result<(), AllocError> {
     match wording {
         Wording::Test => Ok(()),
         Wording::Recording => {
             let (recorded, sent) = (one.expected.as_slice(), one.came.as_slice());
-            let fault = slot_fault(alloc, recorded, sent, is_late)?;
+            let fault = slot_fault(alloc, recorded, sent, reply)?;
             push_field(page, fault.as_str())
         }
     }
@@ -548,7 +545,7 @@ fn push_wrong(
         write!(page, "<tr><td class=\"count\">{}</td>", one.line)?;
         push_message(alloc, page, notes, beside)?;
         push_rule(page, notes, beside)?;
-        push_fault(alloc, page, notes.wording, one, beside.is_late)?;
+        push_fault(alloc, page, notes.wording, one, beside.reply)?;
         push_answer(alloc, page, one.expected.as_slice())?;
         push_answer(alloc, page, one.came.as_slice())?;
         page.push_str("</tr>\n")?;

@@ -1,11 +1,12 @@
 -- What is wrong with a unit, by the lines of what it sent in a slot and of what the terminal sends there, in a transcript: of a word, or empty.
-use Rattle.std.specs.Prelude.{ℕ, ◌/◌, ◌%◌, ◌==◌, Bool, true, false, if◌then◌else◌, Option, Some, None, List, [], ◌∷◌, ◌++◌, codes}
+use Rattle.std.specs.Prelude.{ℕ, ◌/◌, ◌%◌, ◌==◌, Bool, true, false, if◌then◌else◌, Option, Some, None, option_map, List, [], ◌∷◌, ◌++◌, codes}
 use Rattle.std.specs.List.{flat_map}
 use Rattle.std.specs.Option.{unwrap_or}
 use Rattle.std.specs.Fmt.{decimal}
 use Rattle.bus_word.specs.Cell.{same_bool}
 use Rattle.bus_word.specs.Command.{address_of}
 use Rattle.script_lines.specs.Digits.{word_of}
+use Rattle.rt1553_report.specs.declared.fault.ReplyShown.{ReplyShown}
 use Rattle.rt1553_report.specs.declared.fault.SlotWord.{SlotWord}
 use Rattle.rt1553_report.specs.declared.fault.StatusBit.{StatusBit}
 use Rattle.rt1553_report.specs.declared.fault.StatusBit.TheVariants.{MessageError, Instrumentation, ServiceRequest, Reserved1, Reserved2, Reserved3, BroadcastReceived, Busy, SubsystemFlag, BusControl, TerminalFlag}
@@ -87,17 +88,41 @@ other_word recorded sent true false = codes "a status word in place of a data wo
 other_word recorded sent false true = codes "a data word in place of a status word"
 other_word recorded sent false false = codes "another data word"
 
--- A reply begins with the status word, and data words follow. Where none came, one may have come too late.
-abbrev pub fault_by_words : Bool → Option SlotWord → Option SlotWord → List ℕ
-fault_by_words late None None = codes "the reply is too short"
-fault_by_words late None (Some sent) =
-    if sent.is_status then (if late then codes "the reply is too late" else codes "no reply")
-    else codes "the reply is too short"
-fault_by_words late (Some recorded) None = if recorded.is_status then codes "no reply is due" else codes "the reply is too long"
-fault_by_words late (Some recorded) (Some sent) =
+-- how many data words of a reply are missing, if that is known
+abbrev pub shortfall : ℕ → List ℕ
+shortfall missing = if missing == 0 then [] else codes " by " ++ decimal missing ++ (if missing == 1 then codes " word" else codes " words")
+
+-- a reply is too short
+abbrev pub too_short : ℕ → List ℕ
+too_short missing = codes "the reply is too short" ++ shortfall missing
+
+-- by how much a reply came too late, if that is known
+abbrev pub lateness : List ℕ → List ℕ
+lateness [] = []
+lateness (b ∷ bs) = codes " by " ++ b ∷ bs
+
+-- a reply came too late
+abbrev pub too_late : List ℕ → List ℕ
+too_late late = codes "the reply is too late" ++ lateness late
+
+-- there is no reply, or it came too late
+abbrev pub no_reply : Option (List ℕ) → List ℕ
+no_reply None = codes "no reply"
+no_reply (Some late) = too_late late
+
+-- A reply begins with the status word, and data words follow. Where none came, one may have come too late, or so many data words are missing.
+abbrev pub fault_by_words : Option (List ℕ) → ℕ → Option SlotWord → Option SlotWord → List ℕ
+fault_by_words late missing None None = too_short missing
+fault_by_words late missing None (Some sent) = if sent.is_status then no_reply late else too_short missing
+fault_by_words late missing (Some recorded) None = if recorded.is_status then codes "no reply is due" else codes "the reply is too long"
+fault_by_words late missing (Some recorded) (Some sent) =
     if recorded.bus == sent.bus then other_word recorded sent recorded.is_status sent.is_status
     else codes "the reply is on the other bus"
 
--- the same of two lines
-abbrev pub slot_fault : Bool → List ℕ → List ℕ → List ℕ
-slot_fault late recorded sent = fault_by_words late (line_word recorded) (line_word sent)
+-- the text that is shown of a late reply
+abbrev pub late_text : ReplyShown → Option (List ℕ)
+late_text reply = option_map (λ late. late.now) reply.late
+
+-- the same of two lines, and of what is shown of the reply
+abbrev pub slot_fault : ReplyShown → List ℕ → List ℕ → List ℕ
+slot_fault reply recorded sent = fault_by_words (late_text reply) reply.missing (line_word recorded) (line_word sent)

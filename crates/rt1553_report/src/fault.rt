@@ -1,9 +1,9 @@
 //! What is wrong with a unit, by the word that was recorded in a slot and that which the terminal sends there.
-ghost use Rattle.std.specs.Prelude.{◌≡◌, ◌<◌, ◌++◌, [], ◌∷◌, None, IfOk, OnOk, string_bytes};
+ghost use Rattle.std.specs.Prelude.{◌≡◌, ◌<◌, ◌++◌, [], ◌∷◌, None, IfOk, OnOk, option_map, string_bytes};
 ghost use Rattle.std.specs.List.{flat_map};
 ghost use Rattle.std.specs.Option.{unwrap_or};
 ghost use Rattle.script_lines.specs.Digits.{word_of};
-ghost use Rattle.rt1553_report.specs.Recorded.{bit_name, bit_state, bit_told, differing_bit, is_first, is_bit_on, bit_mask, other_bits, other_status, other_word, slot_fault, line_word, all_status_bits, fault_by_words};
+ghost use Rattle.rt1553_report.specs.Recorded.{bit_name, bit_state, bit_told, differing_bit, is_first, is_bit_on, bit_mask, other_bits, other_status, other_word, slot_fault, line_word, all_status_bits, fault_by_words, late_text, lateness, no_reply, shortfall, too_late, too_short};
 
 use bus_word::Command;
 use script_lines::read_word;
@@ -211,19 +211,74 @@ fn push_other_word(text: &mut String, recorded: SlotWord, sent: SlotWord) -> Res
     }
 }
 
-/// What is wrong with a unit that sent nothing where the terminal sends a word, or nothing.
-fn missing_word(sent: Option<SlotWord>, is_late: bool) -> &'static str
-    ensures { result.now ≡ fault_by_words is_late None sent }
+/// What a recording shows of the reply in which nothing was sent.
+#[derive(Clone, Copy)]
+pub struct ReplyShown<'a> {
+    /// Where it came too late: by how much, or empty where that is not known.
+    pub late: Option<&'a str>,
+    /// How many of its data words are missing; 0 where that is not known.
+    pub missing: u8,
+}
+
+/// Writes how many data words of a reply are missing, if that is known.
+fn push_shortfall(text: &mut String, missing: u8) -> Result<(), AllocError>
+    ensures { OnOk result (string_bytes text.new ≡ string_bytes text.old ++ shortfall missing) }
+{
+    if missing == 0 {
+        return Ok(());
+    }
+    let words = if missing == 1 { "word" } else { "words" };
+    write!(text, " by {missing} {words}")
+}
+
+/// Writes that a reply is too short.
+fn push_too_short(text: &mut String, missing: u8) -> Result<(), AllocError>
+    ensures { OnOk result (string_bytes text.new ≡ string_bytes text.old ++ too_short missing) }
+{
+    text.push_str("the reply is too short")?;
+    push_shortfall(text, missing)
+}
+
+/// Writes by how much a reply came too late, if that is known.
+fn push_lateness(text: &mut String, late: &str) -> Result<(), AllocError>
+    ensures { OnOk result (string_bytes text.new ≡ string_bytes text.old ++ lateness late.now) }
+{
+    if late.is_empty() {
+        return Ok(());
+    }
+    text.push_str(" by ")?;
+    text.push_str(late)
+}
+
+/// Writes that a reply came too late.
+fn push_too_late(text: &mut String, late: &str) -> Result<(), AllocError>
+    ensures { OnOk result (string_bytes text.new ≡ string_bytes text.old ++ too_late late.now) }
+{
+    text.push_str("the reply is too late")?;
+    push_lateness(text, late)
+}
+
+/// Writes that there is no reply, or that it came too late.
+fn push_no_reply(text: &mut String, late: Option<&str>) -> Result<(), AllocError>
+    ensures { OnOk result (string_bytes text.new ≡ string_bytes text.old ++ no_reply (option_map (λ late. late.now) late.entry)) }
+{
+    match late {
+        Some(late) => push_too_late(text, late),
+        None => text.push_str("no reply"),
+    }
+}
+
+/// Writes what is wrong with a unit that sent nothing where the terminal sends a word, or nothing.
+fn push_missing(
+    text: &mut String,
+    sent: Option<SlotWord>,
+    reply: ReplyShown<'_>,
+) -> Result<(), AllocError>
+    ensures { OnOk result (string_bytes text.new ≡ string_bytes text.old ++ fault_by_words (late_text reply.entry) reply.entry.missing None sent) }
 {
     match sent {
-        Some(sent) if sent.is_status => {
-            if is_late {
-                "the reply is too late"
-            } else {
-                "no reply"
-            }
-        }
-        _ => "the reply is too short",
+        Some(sent) if sent.is_status => push_no_reply(text, reply.late),
+        _ => push_too_short(text, reply.missing),
     }
 }
 
@@ -232,12 +287,12 @@ fn push_fault(
     text: &mut String,
     recorded: Option<SlotWord>,
     sent: Option<SlotWord>,
-    is_late: bool,
+    reply: ReplyShown<'_>,
 ) -> Result<(), AllocError>
-    ensures { OnOk result (string_bytes text.new ≡ string_bytes text.old ++ fault_by_words is_late recorded sent) }
+    ensures { OnOk result (string_bytes text.new ≡ string_bytes text.old ++ fault_by_words (late_text reply.entry) reply.entry.missing recorded sent) }
 {
     match (recorded, sent) {
-        (None, sent) => text.push_str(missing_word(sent, is_late)),
+        (None, sent) => push_missing(text, sent, reply),
         (Some(recorded), None) => text.push_str(if recorded.is_status {
             "no reply is due"
         } else {
@@ -259,11 +314,11 @@ pub fn slot_fault(
     alloc: Global,
     recorded: &[u8],
     sent: &[u8],
-    is_late: bool,
+    reply: ReplyShown<'_>,
 ) -> Result<String, AllocError>
-    ensures { IfOk result (λ text. string_bytes text ≡ slot_fault is_late recorded.now sent.now) }
+    ensures { IfOk result (λ text. string_bytes text ≡ slot_fault reply.entry recorded.now sent.now) }
 {
     let mut text = String::new(alloc);
-    push_fault(&mut text, line_word(recorded), line_word(sent), is_late)?;
+    push_fault(&mut text, line_word(recorded), line_word(sent), reply)?;
     Ok(text)
 }

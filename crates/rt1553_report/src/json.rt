@@ -167,7 +167,7 @@ fn wrong_entry(
             name,
             message: owned(alloc, beside.message)?,
             time: rule,
-            fault: slot_fault(alloc, stated, answered, beside.is_late)?,
+            fault: slot_fault(alloc, stated, answered, beside.reply)?,
             recorded: expected,
             sends: came,
         }),

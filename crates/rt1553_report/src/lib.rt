@@ -13,7 +13,7 @@ mod unit;
 mod verdict;
 
 pub use clauses::{Scope, ScopeRow, ScriptCount, TriedScript, clause_rows, clauses_in};
-pub use fault::slot_fault;
+pub use fault::{ReplyShown, slot_fault};
 pub use head::{FileDigests, NamesTable, ReportHead, digest_text, push_digest};
 pub use json::result_json;
 pub use junit::{junit_report, junit_suite, push_digest_property, push_property};

@@ -2,6 +2,7 @@
 ghost use Rattle.std.specs.Prelude.{◌≡◌, length, filter, option_map};
 ghost use Rattle.rt1553_report.specs.Results.{outcome_answers, outcome_fault, outcome_passes, outcome_fails, outcome_is_missing, outcome_is_unjudged, outcome_unit, outcome_verdict, totals_of};
 
+use crate::fault::ReplyShown;
 use crate::head::FileDigests;
 use crate::told::{Beside, Wording};
 use crate::unit::UnitVerdict;
@@ -42,8 +43,10 @@ pub struct DifferenceNotes {
     pub messages: AnswerNames,
     /// The rule under which each stands, or its time in a recording: the text of the last comment before it.
     pub rules: AnswerNames,
-    /// In a recording, of which one event is told: whether a reply came there too late.
-    pub is_late: bool,
+    /// In a recording, of which one event is told, where its reply came too late: by how much, or empty where that is not known.
+    pub late: Option<String>,
+    /// And how many data words of it are missing; 0 where that is not known.
+    pub missing: u8,
 }
 
 impl DifferenceNotes {
@@ -53,7 +56,10 @@ impl DifferenceNotes {
             name: name_at(&self.names, index),
             message: self.messages.at(index),
             rule: self.rules.at(index),
-            is_late: self.is_late,
+            reply: ReplyShown {
+                late: self.late.as_ref().map(|late| late.as_str()),
+                missing: self.missing,
+            },
         }
     }
 }

@@ -4,7 +4,7 @@ ghost use Rattle.std.specs.String.{string_bytes};
 ghost use Rattle.rt1553_report.specs.Shown.{StandsFor};
 ghost use Rattle.rt1553_report.specs.Pieces.{AddsPiece};
 
-use crate::fault::slot_fault;
+use crate::fault::{ReplyShown, slot_fault};
 use drawing_boxes::push_escaped;
 use message_names::quoted;
 use rt1553_files::escaped;
@@ -46,8 +46,8 @@ pub struct Beside<'a> {
     pub message: Option<&'a str>,
     /// The rule under which its event stands, or its time in a recording.
     pub rule: Option<&'a str>,
-    /// In a recording: whether a reply came there too late.
-    pub is_late: bool,
+    /// In a recording: what it shows of the reply.
+    pub reply: ReplyShown<'a>,
 }
 
 /// Whether this is a decimal number.
@@ -95,7 +95,7 @@ fn push_fault(
     beside: Beside<'_>,
 ) -> Result<(), AllocError> {
     let (recorded, sent) = (wrong.expected.as_slice(), wrong.came.as_slice());
-    let fault = slot_fault(alloc, recorded, sent, beside.is_late)?;
+    let fault = slot_fault(alloc, recorded, sent, beside.reply)?;
     text.push_str(fault.as_str())?;
     push_message(text, fault.as_str(), beside)?;
     match beside.rule {

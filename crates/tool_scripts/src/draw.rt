@@ -8,6 +8,7 @@ ghost use Rattle.tool_files.specs.Loaded.{IsScriptOf};
 ghost use Rattle.tool_files.specs.Status.{RefusesText};
 
 use crate::draw_list::messages_list;
+use crate::otherwise::warn_otherwise;
 use bus_legal::Normal;
 use bus_script::RunFault;
 use drawing_boxes::DrawFault;
@@ -65,7 +66,7 @@ fn drawn_run(
 }
 
 /// What a run is drawn as, by the script of the file of this name; message by message where it is `folded`.
-fn draw_file<R: Files + AllocGlobal>(
+fn draw_file<R: Files + AllocGlobal + Eprint>(
     rt: &R,
     normal: &Normal,
     names: Option<&MessageNames>,
@@ -76,6 +77,7 @@ fn draw_file<R: Files + AllocGlobal>(
     ensures { IfOk result (λ drawn. (text : List ℕ) × (script : LoadedScript) × IsScriptOf expand_for text script × (refusal (reading 0 (lines_of script.text.items)) ≡ None)) }
 {
     let script = load_script(rt, name, expand_for)?;
+    warn_otherwise(rt, normal, name, &script)?;
     let drawn = DrawnScript {
         text: script.text.as_slice(),
         sources: script.sources(),

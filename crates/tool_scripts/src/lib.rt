@@ -8,6 +8,7 @@ mod expand;
 mod gather;
 mod live;
 mod messages;
+mod otherwise;
 mod recording;
 mod results;
 mod run;

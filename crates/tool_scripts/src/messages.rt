@@ -1,6 +1,7 @@
 //! The command `messages`: the messages of a run, a line each.
 ghost use Rattle.std.specs.Prelude.{◌≡◌, IfOk};
 
+use crate::otherwise::warn_otherwise;
 use ascii_json::named_json;
 use bus_legal::Normal;
 use bus_script::RunFault;
@@ -174,6 +175,7 @@ pub fn list_messages<R: Files + AllocGlobal + Eprint, W: Write>(
     let own = normal.address();
     let names = load_names(rt, asked.names, &[own])?;
     let script = load_script(rt, asked.script, asked.expand.then_some(own))?;
+    warn_otherwise(rt, &normal, asked.script, &script)?;
     let printer = RowPrinter {
         alloc: rt.alloc(),
         own,

@@ -21,15 +21,15 @@ use Rattle.tool_verify.specs.Passing.{tells_nothing, scoped, test_kind, unjudged
 -- the verdict on the events of a test is that on the test
 pub says_so : (on_bus : Bool) (P : Description) (script : List ℕ) (stated seen : List StatedEvent) (same : Bool) (unjudged : Option Unjudged)
     → stated_in script ≡ Ok stated → seen ≡ scoped on_bus stated → same ≡ tells_nothing (Ok (wrong_answers_from P [] seen)) → unjudged ≡ unjudged_test (Ok stated)
-    → SaysBy (test_kind on_bus) P script (verdict_of same unjudged)
+    → SaysBy (test_kind on_bus) P script (verdict_of same unjudged) 0
 says_so false P script stated seen same unjudged reads is says why =
     let told = subst (λ (l : List StatedEvent). same ≡ tells_nothing (Ok (wrong_answers_from P [] l))) is says ∙ ap tells_nothing (sym (ap (by_script P) reads)) in
     let reason = why ∙ ap unjudged_test (sym reads) in
-    λ j. verdict_of (told j) (reason j)
+    (λ j. verdict_of (told j) (reason j), refl)
 says_so true P script stated seen same unjudged reads is says why =
     let told = subst (λ (l : List StatedEvent). same ≡ tells_nothing (Ok (wrong_answers_from P [] l))) is says ∙ ap tells_nothing (sym (ap (on_bus_by_script P) reads)) in
     let reason = why ∙ ap unjudged_test (sym reads) in
-    λ j. verdict_of (told j) (reason j)
+    (λ j. verdict_of (told j) (reason j), refl)
 
 -- the answers that are stated, counted in the code and by the definitions
 pub same_answers : (stated : List Stated) → length (filter (λ s. states_answer (shown s)) stated) ≡ length (filter states_answer (map shown stated))
@@ -56,15 +56,14 @@ none_told None = refl
 none_told (Some line) = refl
 
 -- the verdict on a recording, by what is told of it
-pub says_recorded : (input : Option (List ℕ)) (value : Parts) (first : Option UnexplainedLine) (warning : Option ScriptWarning) (n : ℕ) (same : Bool) (unjudged : Option Unjudged)
+pub says_recorded : (input : Option (List ℕ)) (value : Parts) (first : Option UnexplainedLine) (warning : Option ScriptWarning) (n m : ℕ) (same : Bool) (unjudged : Option Unjudged)
     → ((P : Description) → description_in value ≡ reach P → IfSome input (λ script. IsJudgedFrom P (description_in value) script (told_first first) warning n))
-    → same ≡ is_none first → unjudged ≡ unjudged_by warning → IfSome input (λ script. SaysOf Recording value script (verdict_of same unjudged))
-says_recorded None value first warning n same unjudged judged told why = tt
-says_recorded (Some script) value first warning n same unjudged judged told why = λ P reached. record {
+    → same ≡ is_none first → unjudged ≡ unjudged_by warning → m ≡ n → IfSome input (λ script. SaysOf Recording value script (verdict_of same unjudged) m)
+says_recorded None value first warning n m same unjudged judged told why count = tt
+says_recorded (Some script) value first warning n m same unjudged judged told why count = λ P reached. record {
   told = told_first first;
   warning = warning;
-  silences = n;
-  judged = subst (λ D. IsJudgedFrom P D script (told_first first) warning n) reached (judged P reached);
+  judged = subst (λ k. IsJudgedFrom P (reach P) script (told_first first) warning k) (sym count) (subst (λ D. IsJudgedFrom P D script (told_first first) warning n) reached (judged P reached));
   is = λ j. verdict_of ((told ∙ none_told first) j) (why j);
 }
 
@@ -74,17 +73,16 @@ no_failure None e = absurd (cc)
 no_failure (Some why) e = absurd (cc)
 
 -- the verdict on a recording that began at any time
-pub says_later : (input : Option (List ℕ)) (value : Parts) (after : Option ℕ) (warning : Option ScriptWarning) (n : ℕ) (first : Option UnexplainedLine) (same : Bool) (unjudged : Option Unjudged) →
+pub says_later : (input : Option (List ℕ)) (value : Parts) (after : Option ℕ) (warning : Option ScriptWarning) (n m : ℕ) (first : Option UnexplainedLine) (same : Bool) (unjudged : Option Unjudged) →
     IfSome input (λ script. IsJudgedSince (description_in value) script after (told_first first) warning n) →
     ((P : Description) → description_in value ≡ reach P → IfSome first (λ line. IfSome input (λ script. NothingExplains P script))) →
-    same ≡ is_none first → unjudged ≡ unjudged_since after warning → IfSome input (λ script. SaysOf LaterRecording value script (verdict_of same unjudged))
-says_later None value after warning n first same unjudged judged never told why = tt
-says_later (Some script) value after warning n first same unjudged judged never told why = λ P reached. record {
+    same ≡ is_none first → unjudged ≡ unjudged_since after warning → m ≡ n → IfSome input (λ script. SaysOf LaterRecording value script (verdict_of same unjudged) m)
+says_later None value after warning n m first same unjudged judged never told why count = tt
+says_later (Some script) value after warning n m first same unjudged judged never told why count = λ P reached. record {
   after = after;
   told = told_first first;
   warning = warning;
-  silences = n;
-  judged = subst (λ D. IsJudgedSince D script after (told_first first) warning n) reached judged;
+  judged = subst (λ k. IsJudgedSince (reach P) script after (told_first first) warning k) (sym count) (subst (λ D. IsJudgedSince D script after (told_first first) warning n) reached judged);
   is = λ j. verdict_of ((told ∙ none_told first) j) (why j);
   never = λ fails. by P first refl fails (never P reached);
 }

@@ -77,40 +77,39 @@ unjudged_since (Some line) warning = unjudged_by warning
 
 -- The verdict on a recording, for the terminal of P: it fails exactly if nothing explains one of its parts. What is explained passes, if a word was
 -- sent in what is judged; else nothing of it is.
-pub record SaysRecorded (P : Description) (script : List ℕ) (verdict : ScriptVerdict) : Type 0 where
+pub record SaysRecorded (P : Description) (script : List ℕ) (verdict : ScriptVerdict) (silences : ℕ) : Type 0 where
   pub told : Option ToldAnswer
   pub warning : Option ScriptWarning
-  pub silences : ℕ
   pub judged : IsJudgedFrom P (reach P) script told warning silences
   pub is : verdict ≡ verdict_of (is_none told) (unjudged_by warning)
 
 -- The verdict on a recording that began at any time, for the terminal of P, by what of P can be reached. It fails exactly if what is judged of one of
 -- its parts is not explained, whatever came before; then nothing explains that part, whenever it began. Without such a part, or a word
 -- that was sent in it, nothing is judged.
-pub record SaysSince (P : Description) (script : List ℕ) (verdict : ScriptVerdict) : Type 0 where
+pub record SaysSince (P : Description) (script : List ℕ) (verdict : ScriptVerdict) (silences : ℕ) : Type 0 where
   pub after : Option ℕ
   pub told : Option ToldAnswer
   pub warning : Option ScriptWarning
-  pub silences : ℕ
   pub judged : IsJudgedSince (reach P) script after told warning silences
   pub is : verdict ≡ verdict_of (is_none told) (unjudged_since after warning)
   pub never : verdict ≡ Failed → NothingExplains P script
 
 -- It is the verdict for the terminal of P: on a test, by whether nothing is told of it, or of what the bus alone shows of it, and whether
--- it states an answer; and on a recording, by whether some behaviour of the subsystem explains it.
-abbrev pub SaysBy : ScriptKind → Description → List ℕ → ScriptVerdict → Type 0
-SaysBy Test P script verdict = verdict ≡ verdict_of (tells_nothing (verified P script)) (unjudged_test (stated_in script))
-SaysBy BusTest P script verdict = verdict ≡ verdict_of (tells_nothing (verified_on_bus P script)) (unjudged_test (stated_in script))
-SaysBy Recording P script verdict = SaysRecorded P script verdict
-SaysBy LaterRecording P script verdict = SaysSince P script verdict
+-- it states an answer; and on a recording, by whether some behaviour of the subsystem explains it. In so many slots the unit may have been silent.
+abbrev pub SaysBy : ScriptKind → Description → List ℕ → ScriptVerdict → ℕ → Type 0
+SaysBy Test P script verdict silences = (verdict ≡ verdict_of (tells_nothing (verified P script)) (unjudged_test (stated_in script))) × (silences ≡ 0)
+SaysBy BusTest P script verdict silences = (verdict ≡ verdict_of (tells_nothing (verified_on_bus P script)) (unjudged_test (stated_in script))) × (silences ≡ 0)
+SaysBy Recording P script verdict silences = SaysRecorded P script verdict silences
+SaysBy LaterRecording P script verdict silences = SaysSince P script verdict silences
 
 -- it is the verdict for the terminal of which this can be reached
-abbrev pub SaysOf : ScriptKind → Parts → List ℕ → ScriptVerdict → Type 0
-SaysOf kind value script verdict = (P : Description) → description_in value ≡ reach P → SaysBy kind P script verdict
+abbrev pub SaysOf : ScriptKind → Parts → List ℕ → ScriptVerdict → ℕ → Type 0
+SaysOf kind value script verdict silences = (P : Description) → description_in value ≡ reach P → SaysBy kind P script verdict silences
 
 -- an outcome has such a verdict
 abbrev pub HasVerdict : ScriptKind → Parts → List ℕ → ScriptOutcome → Type 0
-HasVerdict kind value script outcome = (verdict : ScriptVerdict) × (outcome_verdict outcome ≡ Some verdict) × SaysOf kind value script verdict
+HasVerdict kind value script outcome =
+    (verdict : ScriptVerdict) × (silences : ℕ) × (outcome_verdict outcome ≡ Some verdict) × SaysOf kind value script verdict silences
 
 -- how much a status counts among those of several scripts: 3, that nothing was judged, more than 0 and less than 1
 abbrev pub gravity : ℕ → ℕ

@@ -9,6 +9,7 @@ mod coverage;
 mod head;
 mod infer;
 mod opened;
+mod replied;
 mod report;
 mod summary;
 mod unit_results;

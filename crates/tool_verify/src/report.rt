@@ -84,13 +84,6 @@ fn explained_text(
     Ok(text)
 }
 
-/// Whether a recording leaves open whether the unit was silent in a slot.
-fn has_open_slot(recording: &[u8]) -> bool {
-    recording
-        .split(|byte| *byte == b'\n')
-        .any(|line| line == b"#? slot".as_slice())
-}
-
 /// The event of a line of a recording, certain or open; None where it has none.
 fn event_in(line: &[u8]) -> Option<Event> {
     match read_event(after(line, b"#? ").unwrap_or(line)) {
@@ -202,9 +195,6 @@ fn explaining_of(
     recording: &[u8],
     kind: ScriptKind,
 ) -> Result<Vec<u8>, ToolFault> {
-    if has_open_slot(recording) {
-        return Ok(Vec::new(alloc));
-    }
     match explaining_script(alloc, normal, recording, kind) {
         Ok(explaining) => Ok(explaining),
         Err(fault) if is_memory(fault) => Err(ToolFault::Memory),
@@ -258,6 +248,7 @@ fn drawing_of<R: AllocGlobal>(
 ) -> Result<Option<String>, ToolFault> {
     match (it.wrong.as_slice(), it.notes.wording) {
         ([], _) => Ok(None),
+        (_, Wording::Recording) if it.silences > 0 => Ok(Some(String::new(rt.alloc()))),
         ([first, ..], Wording::Recording) => {
             recorded_drawing(rt, played, normal, name, script, first)
         }

@@ -8,6 +8,7 @@ ghost use Rattle.tool_verify.specs.Passing.{IsGraver, IsPlayedTo, SaysOf, is_rec
 use crate::compared::{Compared, ScriptFault, compare_open, explaining_script};
 use crate::head::loaded_names;
 use crate::opened::{OpenScript, open_script};
+use crate::replied::{late_behind, words_missing};
 use crate::report::report_files;
 use crate::summary::put_summary;
 use crate::warned::warn_of_hand_overs;
@@ -338,30 +339,6 @@ fn messages_of(
     Ok(AnswerNames { names: list })
 }
 
-/// Whether a comment behind a line, before the next event, has a reply that came too late.
-fn is_late_behind(script: &[u8], line: u64) -> bool {
-    for (before, text) in script.split(|byte| *byte == b'\n').enumerate() {
-        if (before as u64) < line {
-            continue;
-        }
-        if after(text, b"# later than no response: ").is_some() {
-            return true;
-        }
-        if !text.is_empty() && after(text, b"# ").is_none() {
-            return false;
-        }
-    }
-    false
-}
-
-/// Whether a reply came too late in the first of these events.
-fn is_first_late(script: &[u8], wrong: &[WrongAnswer]) -> bool {
-    match wrong {
-        [first, ..] => is_late_behind(script, first.line),
-        [] => false,
-    }
-}
-
 /// How it is told what differs in a script.
 fn notes_of(
     alloc: Global,
@@ -370,12 +347,17 @@ fn notes_of(
     it: &Compared,
 ) -> Result<DifferenceNotes, AllocError> {
     let (wording, commands) = (wording_of(played.kind), it.commands.as_slice());
+    let first = match it.wrong.as_slice() {
+        [first, ..] => first.line,
+        [] => 0,
+    };
     Ok(DifferenceNotes {
         wording,
         names: names_of(alloc, played.message_names(), commands)?,
         messages: messages_of(alloc, wording, commands)?,
         rules: rules_of(alloc, script, it.wrong.as_slice())?,
-        is_late: is_first_late(script, it.wrong.as_slice()),
+        late: late_behind(alloc, script, first)?,
+        missing: words_missing(script, first, commands),
     })
 }
 
@@ -415,7 +397,7 @@ pub fn play_script<R: AllocGlobal + Eprint, F: Read + Drop>(
     script: &LoadedScript,
     rest: Option<F>,
 ) -> Result<PlayedScript, ToolFault>
-    ensures { IfOk result (λ it. rest ≡ None → SaysOf played.now.kind normal.now script.now.text.items (verdict_of (length it.wrong.items == 0) it.unjudged)) }
+    ensures { IfOk result (λ it. rest ≡ None → SaysOf played.now.kind normal.now script.now.text.items (verdict_of (length it.wrong.items == 0) it.unjudged) it.silences) }
 {
     let text = script.text.as_slice();
     match compare_open(rt.alloc(), normal, text, rest, played.kind) {
@@ -447,7 +429,7 @@ fn tell_script<R: Files + AllocGlobal + Eprint, W: Write>(
     report: ScriptReport,
     output: &mut W,
 ) -> Result<PlayedScript, ToolFault>
-    ensures { IfOk result (λ it. (profile : LoadedProfile) × IsPlayedTo played.now.to profile × (rest ≡ None → SaysOf played.now.kind profile.normal script.now.text.items (verdict_of (length it.wrong.items == 0) it.unjudged))) }
+    ensures { IfOk result (λ it. (profile : LoadedProfile) × IsPlayedTo played.now.to profile × (rest ≡ None → SaysOf played.now.kind profile.normal script.now.text.items (verdict_of (length it.wrong.items == 0) it.unjudged) it.silences)) }
 {
     let profile = played.of_script(rt, name, script.text.as_slice())?;
     let it = play_script(rt, played, &profile.normal, name, script, rest)?;

@@ -6,6 +6,7 @@ use Rattle.tool_verify.proofs.report.outcome_of_script.Goals as goal
 pub returns : goal.returns
 returns g c whole = (
   verdict_of (length c.in_ok-it.it.wrong.items == 0) c.in_ok-it.it.unjudged,
+  c.in_ok-it.it.silences,
   λ j. Some (verdict_of (c.in_ok-wrong_in_file.ensures j == 0) c.in_ok-it.it.unjudged),
   c.in_ok-it.ensures whole,
 )
