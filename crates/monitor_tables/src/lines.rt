@@ -41,7 +41,7 @@ fn push_maybe(lines: &mut HeardLines, event: &Event)
 
 /// Writes the line of a word that the terminal sent, behind what tells how it stands there.
 fn push_sent(lines: &mut HeardLines, front: &str, sent: Sent)
-    requires room { array_string_len lines.old ≤ 100 }
+    requires room { array_string_len lines.old ≤ 160 }
     requires front { length front.now ≤ 40 }
     ensures { lines.new.bytes ≡ lines.old.bytes ++ (front.now ++ sent_text (shown_word sent)) }
 {
@@ -147,7 +147,7 @@ pub fn put_heard<W: Sink>(sink: &mut W, time: &str, heard: HeardItem) -> Result<
 
 /// Writes a number.
 fn push_number(lines: &mut HeardLines, number: u64)
-    requires { array_string_len lines.old ≤ 100 }
+    requires { array_string_len lines.old ≤ 120 }
     ensures bytes { lines.new.bytes ≡ lines.old.bytes ++ decimal number }
     ensures len { array_string_len lines.new ≤ array_string_len lines.old + 40 }
 {

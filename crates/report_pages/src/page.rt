@@ -11,9 +11,10 @@ use drawing_boxes::push_escaped;
 use message_names::quoted;
 use rt1553_draw::{MOST_STATED, push_front, push_keys};
 use rt1553_report::{
-    Beside, DifferenceNotes, FileDigests, NamesTable, ReplyDifference, ReportHead, Scope, ScopeRow,
-    ScriptOutcome, ScriptResult, Totals, TriedScript, UnitVerdict, Wording, answer_told,
-    clause_rows, push_digest, push_markup, push_shown, result_word, slot_fault, totals_of,
+    Beside, DifferenceNotes, FileDigests, NamesTable, ReplyDifference, ReplyShown, ReportHead,
+    Scope, ScopeRow, ScriptOutcome, ScriptResult, Totals, TriedScript, UnitVerdict, Wording,
+    answer_told, clause_rows, push_digest, push_markup, push_shown, result_word, slot_fault,
+    totals_of,
 };
 use rt1553_verify::WrongAnswer;
 use std::alloc::{AllocError, Global};
