@@ -214,22 +214,21 @@ def word_fault(recorded, sent):
     return f"another status word: {bits_told(bits, bits_sent)}" if bits >> 11 == bits_sent >> 11 else f"another address: {bits >> 11}"
 
 
-def too_short(recording, command):
-    """By how much the reply to a command is too short that ends in the last of some sightings."""
-    kinds = "".join(sent[0][0] for _, sent in recording if sent)
-    due = 1 if command >> 5 & 31 in (0, 31) else command & 31 or 32
-    missing = due - (len(kinds) - kinds.rindex("s") - 1)
+def too_short(explains, before, bus):
+    """By how much a reply is too short behind some sightings: so many data words more are explained."""
+    words = [(("slot",), ("data", bus, None))] * 33
+    missing = explains([*before, *words]) - len(before)
     return f"the reply is too short by {missing} word{'s' if missing != 1 else ''}"
 
 
-def slot_fault(recording, sent, command):
-    """What is wrong with a unit in the last of some sightings of a message, where the terminal sends a word, or none."""
+def slot_fault(explains, recording, sent):
+    """What is wrong with a unit in the last of some sightings, where the terminal sends a word, or none."""
     recorded = recording[-1][1]
     if recorded and sent:
         return word_fault(recorded, sent)
     if recorded:
         return "no reply is due" if recorded[0] == "status" else "the reply is too long"
-    return "no reply" if sent[0] == "status" else too_short(recording, command)
+    return "no reply" if sent[0] == "status" else too_short(explains, recording[:-1], sent[1])
 
 
 def command_of(recording, address):
@@ -248,10 +247,10 @@ def message_told(command, address):
     return f"{to} {'transmit' if command >> 10 & 1 else 'receive'} {subaddress}, {low or 32} word{'s' if low != 1 else ''}"
 
 
-def fault_told(recording, sent, address):
-    """What is wrong with a unit in the last of some sightings, and in which message."""
-    command = command_of(recording, address)
-    fault = slot_fault(recording, sent, command)
+def fault_told(explains, before, recording, sent, address):
+    """What is wrong with a unit in the last of some sightings, behind others, and in which message."""
+    command = command_of([*before, *recording], address)
+    fault = slot_fault(explains, recording, sent)
     return fault if command is None else f"{fault}{' to' if fault == 'no reply' else ', in'} {message_told(command, address)}"
 
 
@@ -266,7 +265,7 @@ def check_told(judge, setup, recording, name, numbers, told, before=()):
     found = re.fullmatch("(.*?): (.*): recorded (.*); the terminal sends (.*)", told[0]) if told else None
     assert found and [found[1], found[3], *told[1:]] == [f"{name}:{numbers[count]}", stated(sent), f"{name}: differences: 1"], told
     assert explains([*recording[:count], (event, sent_of(found[4]))]) == count + 1, f"{name}: this can't come: {found[4]}"
-    assert found[2] == fault_told([*before, *recording[: count + 1]], sent_of(found[4]), setup.address), told
+    assert found[2] == fault_told(explains, before, recording[: count + 1], sent_of(found[4]), setup.address), told
 
 
 def verified(tool, folder, names, *options):

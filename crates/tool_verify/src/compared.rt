@@ -209,7 +209,7 @@ pub fn compare_later<B: BufRead + Drop>(
 }
 
 /// Plays a script to a terminal, and compares its answers with what the script states.
-fn compare_script(
+pub fn compare_script(
     alloc: Global,
     normal: &Normal,
     script: &[u8],

@@ -6,9 +6,10 @@ ghost use Rattle.tool_verify.specs.Passing.{HasVerdict};
 ghost use Rattle.tool_verify.specs.Digests.{HasScriptDigest};
 ghost use Rattle.tool_verify.specs.inner.Tried.{IsTried};
 
-use crate::compared::{ScriptFault, explaining_script};
+use crate::compared::explaining_script;
 use crate::head::{head_of, profile_digests};
 use crate::opened::OpenScript;
+use crate::replied::{is_memory, lines_up_to};
 use crate::verify::{Played, PlayedScript, PlayedTo, clauses_of, joined_status, play_script};
 use ascii_json::json_line;
 use bus_legal::Normal;
@@ -22,9 +23,8 @@ use rt1553_report::{
     junit_report, result_json,
 };
 use rt1553_tool_args::{AskedReport, Profiles, ReportFormat, ScriptKind};
-use rt1553_verify::{StatedFault, WrongAnswer, named};
+use rt1553_verify::{WrongAnswer, named};
 use script_lines::read_event;
-use script_recordings::RecordingFault;
 use std::alloc::{AllocError, Global};
 use std::format;
 use std::io::{Read, Write};
@@ -69,14 +69,9 @@ fn explained_text(
     script: &[u8],
     wrong: &WrongAnswer,
 ) -> Result<Vec<u8>, AllocError> {
-    let mut text = Vec::new(alloc);
-    for (before, line) in script.split(|byte| *byte == b'\n').enumerate() {
-        if before as u64 == wrong.line {
-            break;
-        }
-        text.extend_from_slice(line)?;
-        text.push(b'\n')?;
-    }
+    let Some(mut text) = lines_up_to(alloc, script, wrong.line)? else {
+        return Ok(Vec::new(alloc));
+    };
     if !wrong.came.is_empty() {
         text.extend_from_slice(b"#> ")?;
         text.extend_from_slice(wrong.came.as_slice())?;
@@ -176,15 +171,6 @@ fn draw_messages<R: AllocGlobal>(
         Ok(drawing) => Ok(Some(drawing)),
         Err(DrawFault::Memory) => Err(ToolFault::Memory),
         Err(fault) => Err(refused_file(rt, name, &fault)),
-    }
-}
-
-/// Whether memory ran out.
-fn is_memory(fault: ScriptFault) -> bool {
-    match fault {
-        ScriptFault::Stated(StatedFault::Memory) => true,
-        ScriptFault::Recording(RecordingFault::Script(StatedFault::Memory)) => true,
-        _ => false,
     }
 }
 

@@ -8,7 +8,7 @@ ghost use Rattle.tool_verify.specs.Passing.{IsGraver, IsPlayedTo, SaysOf, is_rec
 use crate::compared::{Compared, ScriptFault, compare_open, explaining_script};
 use crate::head::loaded_names;
 use crate::opened::{OpenScript, open_script};
-use crate::replied::{late_behind, words_missing};
+use crate::replied::{late_reply, words_missing};
 use crate::report::report_files;
 use crate::summary::put_summary;
 use crate::warned::warn_of_hand_overs;
@@ -343,21 +343,19 @@ fn messages_of(
 fn notes_of(
     alloc: Global,
     played: &Played<'_>,
+    normal: &Normal,
     script: &[u8],
     it: &Compared,
 ) -> Result<DifferenceNotes, AllocError> {
     let (wording, commands) = (wording_of(played.kind), it.commands.as_slice());
-    let first = match it.wrong.as_slice() {
-        [first, ..] => first.line,
-        [] => 0,
-    };
+    let wrong = it.wrong.as_slice();
     Ok(DifferenceNotes {
         wording,
         names: names_of(alloc, played.message_names(), commands)?,
         messages: messages_of(alloc, wording, commands)?,
-        rules: rules_of(alloc, script, it.wrong.as_slice())?,
-        late: late_behind(alloc, script, first)?,
-        missing: words_missing(script, first, commands),
+        rules: rules_of(alloc, script, wrong)?,
+        late: late_reply(alloc, script, wrong)?,
+        missing: words_missing(alloc, normal, script, wrong, played.kind)?,
     })
 }
 
@@ -402,7 +400,7 @@ pub fn play_script<R: AllocGlobal + Eprint, F: Read + Drop>(
     let text = script.text.as_slice();
     match compare_open(rt.alloc(), normal, text, rest, played.kind) {
         Ok(compared) => {
-            let notes = notes_of(rt.alloc(), played, text, &compared)?;
+            let notes = notes_of(rt.alloc(), played, normal, text, &compared)?;
             if notes.wording == Wording::Recording {
                 warn_of_hand_overs(rt, name, text)?;
             }
