@@ -78,6 +78,9 @@ TEXT = f"""{HEADER}\
 FILES = {"five": FIVE, "script": SCRIPT, "names.csv": NAMES, "bad": "A c 2c02\nA gap\nslot\nA c 2c02\nA gup\n", "long": "A gap\n#" + "x" * 64 + "\n",
          "messages": "A rx 5 3 2: 0011 0022\nA mode 5 2\n"}  # fmt: skip
 LINES = TEXT.splitlines(keepends=True)
+ASKED = "A c 2c02\nA gap\nslot\n"
+DONE = "     1       1 A   mode       5   2       done; status 2800\n"
+OTHERWISE = "warning: the terminal sends another word than is stated; of a recording, play the script of verify --any-subsystem --witness\n"
 ALL = "arguments: --format messages excludes --rt, --subaddress, --errors and --names\n"
 TOLD = with_files(
     FILES,
@@ -93,9 +96,11 @@ TOLD = with_files(
     Row("lines of messages that are expanded", "messages --expand five messages", 0,
         HEADER + LINES[1] + "     2       2 A   mode       5   2       done; status 2800\n"),
     Row("a refused line, behind a message", "messages five bad", 2,
-        HEADER + "     1       1 A   mode       5   2       done; status 2800\n",
+        HEADER + DONE,
         errors="bad:5:3: error: after a bus, c, d, gap or noise is expected\n"),
     Row("a long line", "messages five long", 2, HEADER, errors="long:2:65: error: over 64 bytes before the line feed\n"),
+    Row("messages of a recording", "messages five recorded", 0, HEADER + DONE, f"recorded:3: {OTHERWISE}", files={"recorded": f"{ASKED}#> A s 2801\n"}),
+    Row("messages of a script with its answers", "messages five stated", 0, HEADER + DONE, files={"stated": f"{ASKED}#> A s 2800\n"}),
     Row("messages for expand", "messages --format messages five script", 0, """\
 A rx 5 3 2: 0011 0022
 B rx all 3 2: 0001 0002
@@ -134,6 +139,13 @@ slot
 @pytest.mark.parametrize("row", TOLD, ids=lambda it: it.name)
 def test_messages(tool, row, tmp_path):
     check_row(tool, row, tmp_path)
+
+
+def test_drawing_of_a_recording(tool, tmp_path):
+    """It warns of the first word that the terminal sends otherwise."""
+    write_files(tmp_path, {"five": FIVE, "recorded": f"{ASKED}#> A s 2801\n"})
+    given = run(tool, "draw", "five", "recorded", folder=tmp_path)
+    assert (given.status, given.errors.decode()) == (0, f"recorded:3: {OTHERWISE}")
 
 
 def played(number, count=40):
