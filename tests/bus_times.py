@@ -827,12 +827,12 @@ def with_gaps(told, true):
 
 
 def hidden_by(tool, folder, one):
-    """What a script leaves open of a run with a fault that passes: `slots` that it does not state, `gaps` that may have come, `both`, or the
-    `order` of words; nothing where it fails with all of these as they were."""
+    """What a script leaves open of a run with a fault that passes: `slots` that it does not state, `gaps` that may have come, `both`, who was
+    the `sender` of a word, or the `order` of words; nothing where it fails with all of these as they were."""
     words, told = stretches(items_of((folder / "script").read_text(encoding="ascii")))
     true_words, true = stretches(true_items(one))
     if words != true_words:
-        return "order"
+        return "order" if sorted(words) == sorted(true_words) else "sender"
     for name, change in {"slots": with_slots, "gaps": with_gaps, "both": lambda _, true: true}.items():
         write_files(folder, {"script": script_text(words, [change(*it) for it in zip(told, true)])})
         if run(tool, "verify", "--any-subsystem", f"{one.setup.address // 2}.toml", "script", folder=folder).status == 1:
