@@ -5,7 +5,7 @@
 
 The model of the rules (tests/model) plays messages to the terminals of examples/profiles, whose subsystems do something now and then.
 A table has each word, with its time, bus and sync. Two units have a fault late in the day: one sets a reserved bit of its status, one
-leaves out the last word of a reply. For each terminal the table becomes a recording, which is judged. Nothing here is a test.
+leaves out the last word of a reply, which is its status word in a day of 10,000,000 words. For each terminal the table becomes a recording, which is judged. Nothing here is a test.
 """
 import os
 import pathlib
