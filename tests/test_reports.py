@@ -294,6 +294,7 @@ BOTH = "address = 5\n[[rule]]\ndirection = \"both\"\nsubaddresses = \"1\"\ncount
 DRAWN_RECORDINGS = {
     "from power-up": (GAVE.replace("A C", "A c 2C22"), [], 16),
     "later": (f"A gap\nA gap\nB gap\nB gap\nslot\n{GAVE.replace('A C', 'A c 2c22 0')}", ["--already-on"], 21),
+    "before a slot that is left open": (f"{GAVE.replace('A C', 'A c 2c22')}A c 2c02\nA gap\n#? slot\n", [], 16),
 }
 
 

@@ -1,12 +1,12 @@
 -- Laws of a recording in parts, one after the other.
-use Rattle.std.proofs.Common.{◌≡◌, ◌∙◌, ◌⊎◌, inl, ℕ, zero, suc, ◌+◌, ◌<◌, ◌≤◌, arith, Bool, true, false, not, cond, ◌&&◌, ◌==◌, Option, Some, None, IfSome, is_some, Result, Ok, Err, List, [], ◌∷◌, ◌++◌, length, filter, refl, sym, ap, subst, append_assoc, append-nil, length-append}
+use Rattle.std.proofs.Common.{◌≡◌, ◌∙◌, inl, ℕ, suc, ◌+◌, ◌<◌, ◌≤◌, arith, Bool, true, false, not, cond, ◌&&◌, ◌==◌, Option, Some, None, IfSome, is_some, Result, Ok, Err, List, [], ◌∷◌, ◌++◌, length, filter, refl, sym, ap, subst, append_assoc, append-nil, length-append}
 use Rattle.std.proofs.lemmas.Bool.Decides.{nat_tests}
+use Rattle.std.proofs.lemmas.List.Elements.{filter-append}
 use Rattle.std.proofs.lemmas.List.Splits.{slice_split_none, slice_split_at}
 use Rattle.bus_legal.specs.Description.{Description}
 use Rattle.terminal_recordings.specs.MaybeGaps.{MaybeSighting}
 use Rattle.recorded_terminal.specs.declared.watch.Marked.{Marked}
 use Rattle.recorded_terminal.specs.Marks.{maybe_in}
-use Rattle.rt1553_verify.specs.declared.stated.ScriptWarning.{ScriptWarning}
 use Rattle.rt1553_verify.specs.declared.stated.ScriptWarning.TheVariants.{NoEvent, NoAnswer}
 use Rattle.rt1553_verify.specs.declared.stated.StatedFault.{StatedFault}
 use Rattle.rt1553_verify.specs.Stated.{StatedEvent, stated_through, stated_warning, then_events}
@@ -15,13 +15,15 @@ use Rattle.rt1553_verify.proofs.StatedLaws.{then-twice}
 use Rattle.script_recordings.specs.declared.explaining.PartTold.{PartTold}
 use Rattle.script_recordings.specs.declared.explaining.UnexplainedLine.{UnexplainedLine}
 use Rattle.script_recordings.specs.declared.reading.RecordingFault.{RecordingFault}
+use Rattle.script_recordings.specs.declared.tally.Tally.{Tally}
 use Rattle.script_recordings.specs.declared.reading.RecordingFault.TheVariants.{Unseen, Masked, NoWord, TooManyWays, Script}
-use Rattle.script_recordings.specs.Parts.{is_silence, split_parts}
-use Rattle.script_recordings.specs.Seen.{AreToldAs, AreNoted, AreNoRecording, recorded_warning, shows_word}
-use Rattle.script_recordings.specs.Explained.{first_some, told_first, IsJudgedFirst, IsJudgedLater, AreJudgedLater, IsJudgedFrom, IsJudgedSince}
+use Rattle.script_recordings.specs.Parts.{is_silence, split_parts, heard}
+use Rattle.script_recordings.specs.Seen.{AreToldAs, AreNoted, AreNoRecording, StateWords, recorded_warning, shows_word}
+use Rattle.script_recordings.specs.Explained.{first_some, told_first, IsJudgedLater, AreJudgedLater, IsJudgedFrom, IsJudgedSince}
 use Rattle.script_recordings.specs.inner.Reads.{Left, ReadsPart, ReadsThen, EndsPart}
+use Rattle.script_recordings.specs.inner.Tallies.{IsTally}
 use Rattle.script_recordings.specs.inner.PartsTold.{joined_warning, TellsNone, TellsThen, IsToldFirst, IsToldLater, ArePartsTold, AreOthersTold}
-use Rattle.script_recordings.proofs.ReadLaws.{AreMarkedAs, PartSoFar, part_ended, are_told, are_noted, noted_more, none_end}
+use Rattle.script_recordings.proofs.ReadLaws.{AreMarkedAs, PartSoFar, part_ended, are_told, all_heard, are_noted, noted_more, none_end}
 
 abbrev Said : Type 0
 Said = Result (List StatedEvent) StatedFault
@@ -46,13 +48,7 @@ some_told None other = refl
 some_told (Some line) other = refl
 
 shown_more : (xs ys : List MaybeSighting) → length (filter shows_word (xs ++ ys)) ≡ length (filter shows_word xs) + length (filter shows_word ys)
-shown_more [] ys = omega arith
-shown_more (x ∷ xs) ys = by (shows_word x) (shown_more xs ys)
-  where
-    by : (b : Bool) → length (filter shows_word (xs ++ ys)) ≡ length (filter shows_word xs) + length (filter shows_word ys)
-        → length (cond b (x ∷ filter shows_word (xs ++ ys)) (filter shows_word (xs ++ ys))) ≡ length (cond b (x ∷ filter shows_word xs) (filter shows_word xs)) + length (filter shows_word ys)
-    by true e = omega (arith, e)
-    by false e = e
+shown_more xs ys = ap length (filter-append shows_word xs ys) ∙ length-append (filter shows_word xs) (filter shows_word ys)
 
 none_of_both : (n m : ℕ) → (n + m == 0) ≡ ((n == 0) && (m == 0))
 none_of_both n m = grind (arith, nat_tests)
@@ -82,10 +78,36 @@ warned_more (x ∷ xs) (y ∷ ys) =
     by true false = refl
     by false c = refl
 
+-- ---- the words that are stated
+
+told_more : (ss ts : List StatedEvent) (xs ys : List MaybeSighting) → AreToldAs ss xs → AreToldAs ts ys → AreToldAs (ss ++ ts) (xs ++ ys)
+told_more [] ts [] ys are more = more
+told_more [] ts (x ∷ xs) ys are more = absurd are
+told_more (s ∷ ss) ts [] ys are more = absurd are
+told_more (s ∷ ss) ts (x ∷ xs) ys are more = (are.0, told_more ss ts xs ys are.1 more)
+
+words_more : (ss ts : List StatedEvent) (n m : ℕ) → StateWords ss n → StateWords ts m → StateWords (ss ++ ts) (n + m)
+words_more ss ts n m (xs, are, k) (ys, more, l) = (
+  xs ++ ys,
+  subst (λ zs. AreToldAs zs (xs ++ ys)) (sym (filter-append (λ s. not (is_silence s)) ss ts)) (told_more (heard ss) (heard ts) xs ys are more),
+  (λ j. k j + l j) ∙ sym (shown_more xs ys),
+)
+
+-- those of a part, and of the slot that ends it
+words_ended : (ss : List StatedEvent) (s : StatedEvent) (n : ℕ) → is_silence s ≡ true → StateWords ss n → StateWords (ss ++ s ∷ []) n
+words_ended ss s n silent words =
+    subst (StateWords (ss ++ s ∷ [])) (omega arith) (words_more ss (s ∷ []) n 0 words ([], subst (λ b. AreToldAs (cond (not b) (s ∷ []) []) []) (sym silent) tt, refl))
+
+pub words_told : (ss : List StatedEvent) (ms : List Marked) (t : Tally) (n : ℕ) → AreMarkedAs ss ms → IsTally ms t → n ≡ t.answers → StateWords ss n
+words_told ss ms t n are tally is = (maybe_in ms, subst (λ zs. AreToldAs zs (maybe_in ms)) (sym (all_heard ss (maybe_in ms) told)) told, is ∙ tally.answers)
+  where
+    told : AreToldAs ss (maybe_in ms)
+    told = are_told ss ms are
+
 -- one part before others
 told_before : (D : Description) (events : List StatedEvent) (parts : List (List StatedEvent)) (t others all : PartTold) → IsToldLater D events t → ArePartsTold D parts others → TellsThen t others all
     → ArePartsTold D (events ∷ parts) all
-told_before D events parts t others all (seen, i, w) (more, are, v) then = (
+told_before D events parts t others all (seen, i, w, words) (more, are, v) then = (
   seen ++ more,
   (t.after, others.after, told_first t.first, told_first others.first, seen, more, i, are, then.0, ap told_first then.1 ∙ some_told t.first others.first, refl),
   then.2 ∙ (λ j. joined_warning (w j) (v j)) ∙ sym (warned_more seen more),
@@ -121,7 +143,7 @@ judged_behind D (part ∷ parts) events after line told one judged seen (l, ls, 
 
 told_behind : (D : Description) (parts : List (List StatedEvent)) (events : List StatedEvent) (t part all : PartTold) → ArePartsTold D parts t → IsToldLater D events part → TellsThen t part all
     → ArePartsTold D (parts ++ events ∷ []) all
-told_behind D parts events t part all (judged, are, w) (seen, i, v) then = (
+told_behind D parts events t part all (judged, are, w) (seen, i, v, words) then = (
   judged ++ seen,
   subst (λ q. AreJudgedLater D (parts ++ events ∷ []) q (told_first all.first) (judged ++ seen)) (sym then.0)
       (subst (λ q. AreJudgedLater D (parts ++ events ∷ []) (first_some t.after part.after) q (judged ++ seen)) (sym (ap told_first then.1 ∙ some_told t.first part.first))
@@ -130,7 +152,7 @@ told_behind D parts events t part all (judged, are, w) (seen, i, v) then = (
 )
 
 told_nothing : (D : Description) (t : PartTold) → TellsNone t → ArePartsTold D [] t
-told_nothing D t (a, f, w) = ([], (a, ap told_first f, refl), w)
+told_nothing D t (a, f, w, none) = ([], (a, ap told_first f, refl), w)
 
 -- what was read of a part, and what holds of it
 pub reads_then : (all left new : Left) (silence : Option ℕ) (ms : List Marked) {Holds : List StatedEvent → Type 0} → PartSoFar all left ms → EndsPart left new silence
@@ -143,33 +165,36 @@ reads_then (Some said) left new silence ms read end holds =
 -- ---- the parts behind one that ended
 
 abbrev pub OthersSoFar : Description → Left → Option ℕ → Left → Option ℕ → PartTold → ℕ → Type 0
-OthersSoFar D all None left silence t n = (silence ≡ None) × ArePartsTold D [] t × (n ≡ 0)
+OthersSoFar D all None left silence t n = (silence ≡ None) × ArePartsTold D [] t × (n ≡ 0) × (t.answers ≡ 0)
 OthersSoFar D None (Some line) left silence t n = Unit {0}
 OthersSoFar D (Some said) (Some line) left None t n = AreOthersTold D (Some said) (Some line) t n
 OthersSoFar D (Some said) (Some line) left (Some at) t n =
     (front : List StatedEvent) × (later : Said) × (parts : List (List StatedEvent)) × (left ≡ Some later) × (said ≡ then_events front later) × AreNoted front
-    × ((rest : List StatedEvent) → split_parts (front ++ rest) ≡ parts ++ split_parts rest) × ArePartsTold D parts t × (length parts ≡ n)
+    × ((rest : List StatedEvent) → split_parts (front ++ rest) ≡ parts ++ split_parts rest) × ArePartsTold D parts t × (length parts ≡ n) × StateWords front t.answers
 
 none_before : (said : Said) → said ≡ then_events [] said
 none_before (Ok ss) = refl
 none_before (Err fault) = refl
 
 pub others_none : (D : Description) (left : Left) (silence : Option ℕ) (t : PartTold) → TellsNone t → OthersSoFar D left silence left silence t 0
-others_none D left None t none = (refl, told_nothing D t none, refl)
+others_none D left None t none = (refl, told_nothing D t none, refl, none.3)
 others_none D None (Some line) t none = tt
-others_none D (Some said) (Some line) t none = ([], said, [], refl, none_before said, tt, λ rest. refl, told_nothing D t none, refl)
+others_none D (Some said) (Some line) t none = ([], said, [], refl, none_before said, tt, λ rest. refl, told_nothing D t none, refl, ([], tt, none.3))
 
 pub others_more : (D : Description) (all : Left) (begun : Option ℕ) (left new : Left) (silence next : Option ℕ) (t part then : PartTold) (n : ℕ) → is_some silence ≡ true → OthersSoFar D all begun left silence t n
     → ReadsThen left new next (λ events. IsToldLater D events part) → TellsThen t part then → OthersSoFar D all begun new next then (n + 1)
 others_more D all begun left new None next t part then n some far reads tells = absurd (cc)
-others_more D all None left new (Some at) next t part then n some (none, told, few) reads tells = absurd (cc)
+others_more D all None left new (Some at) next t part then n some (none, told, few, no_words) reads tells = absurd (cc)
 others_more D None (Some line) left new (Some at) None t part then n some far reads tells = tt
 others_more D None (Some line) left new (Some at) (Some k) t part then n some far reads tells = tt
-others_more D (Some said) (Some line) left new (Some at) next t part then n some (front, later, parts, is, whole, noted, split, told, many) reads tells =
+others_more D (Some said) (Some line) left new (Some at) next t part then n some (front, later, parts, is, whole, noted, split, told, many, words) reads tells =
     by next (subst (λ (l : Left). ReadsThen l new next (λ events. IsToldLater D events part)) is reads)
   where
     more : (events : List StatedEvent) → length (parts ++ events ∷ []) ≡ n + 1
     more events = length-append parts (events ∷ []) ∙ ap (λ k. k + 1) many
+
+    both : (events : List StatedEvent) → StateWords events part.answers → StateWords (front ++ events) then.answers
+    both events i = subst (StateWords (front ++ events)) (sym tells.3) (words_more front events t.answers part.answers words i)
 
     by : (next : Option ℕ) → ReadsThen (Some later) new next (λ events. IsToldLater D events part) → OthersSoFar D (Some said) (Some line) new next then (n + 1)
     by None (events, all, (xs, are), i) =
@@ -178,6 +203,7 @@ others_more D (Some said) (Some line) left new (Some at) next t part then n some
           whole ∙ ap (then_events front) all,
           subst (λ l. ArePartsTold D l then) (sym cut) (told_behind D parts events t part then told i tells),
           ap length cut ∙ more events,
+          both events i.3,
         )
     by (Some k) (events, (s, rest, is_left, all, silent, place), (xs, are), i) = (
       front ++ (events ++ s ∷ []),
@@ -190,6 +216,7 @@ others_more D (Some said) (Some line) left new (Some at) next t part then n some
           ∙ sym (append_assoc parts (events ∷ []) (split_parts others)),
       told_behind D parts events t part then told i tells,
       more events,
+      both (events ++ s ∷ []) (words_ended events s part.answers silent i.3),
     )
 
 -- ---- what is no recording
@@ -208,15 +235,15 @@ behind front said later (NoWord n) noted whole (before, s, rest, all, are, heard
 pub others_refused : (D : Description) (all : Left) (begun : Option ℕ) (left : Left) (silence : Option ℕ) (t : PartTold) (n : ℕ) (fault : RecordingFault) → is_some silence ≡ true
     → OthersSoFar D all begun left silence t n → IfSome left (λ said. AreNoRecording said fault) → IfSome all (λ said. AreNoRecording said fault)
 others_refused D all begun left None t n fault some far bad = absurd (cc)
-others_refused D all None left (Some at) t n fault some (none, told, few) bad = absurd (cc)
+others_refused D all None left (Some at) t n fault some (none, told, few, no_words) bad = absurd (cc)
 others_refused D None (Some line) left (Some at) t n fault some far bad = tt
-others_refused D (Some said) (Some line) left (Some at) t n fault some (front, later, parts, is, whole, noted, split, told, many) bad =
+others_refused D (Some said) (Some line) left (Some at) t n fault some (front, later, parts, is, whole, noted, split, told, many, words) bad =
     behind front said later fault noted whole (subst (λ (l : Left). IfSome l (λ said. AreNoRecording said fault)) is bad)
 
 -- none is read where the first part ended with the script
 pub others_begun : (D : Description) (all : Left) (begun : Option ℕ) (left : Left) (silence : Option ℕ) (t : PartTold) (n : ℕ) → is_some silence ≡ true → OthersSoFar D all begun left silence t n → begun ≡ None → ⊥
 others_begun D all begun left None t n some far none = absurd (cc)
-others_begun D all None left (Some at) t n some (is, told, few) none = absurd (cc)
+others_begun D all None left (Some at) t n some (is, told, few, no_words) none = absurd (cc)
 others_begun D all (Some line) left (Some at) t n some far none = absurd (cc)
 
 -- those behind the first part
@@ -229,47 +256,66 @@ rest_refused (Some said) new (Some line) Holds fault (events, (s, later, is, all
 
 -- ---- the whole
 
--- the parts of all that is left, behind the first one
-pub record Whole (D : Description) (said : Said) (events : List StatedEvent) (others : PartTold) (n : ℕ) : Type 0 where
+-- the parts of all that is left, behind the first one, in which so many words are stated
+pub record Whole (D : Description) (said : Said) (events : List StatedEvent) (others : PartTold) (n k : ℕ) : Type 0 where
   pub whole : List StatedEvent
   pub says : said ≡ Ok whole
   pub parts : List (List StatedEvent)
   pub split : split_parts whole ≡ events ∷ parts
   pub told : ArePartsTold D parts others
   pub many : length parts ≡ n
+  pub words : StateWords whole (k + others.answers)
 
-whole_of : (D : Description) (said : Said) (new : Left) (silence : Option ℕ) (events : List StatedEvent) (xs : List MaybeSighting) (others : PartTold) (n : ℕ) → ReadsPart (Some said) new silence events
-    → AreToldAs events xs → AreOthersTold D new silence others n → Whole D said events others n
-whole_of D said None None events xs others n reads are told = record { whole = events; says = reads; parts = []; split = one_part events xs are; told = told.0; many = sym told.1 }
-whole_of D said (Some later) None events xs others n reads are told = record { whole = events; says = reads; parts = []; split = one_part events xs are; told = told.0; many = sym told.1 }
-whole_of D said new (Some line) events xs others n (s, later, is, all, silent, at) are told =
+whole_of : (D : Description) (said : Said) (new : Left) (silence : Option ℕ) (events : List StatedEvent) (xs : List MaybeSighting) (others : PartTold) (n k : ℕ) → ReadsPart (Some said) new silence events
+    → AreToldAs events xs → AreOthersTold D new silence others n → StateWords events k → Whole D said events others n k
+whole_of D said new None events xs others n k reads are told words = record {
+  whole = events;
+  says = by new reads;
+  parts = [];
+  split = one_part events xs are;
+  told = told.0;
+  many = sym told.1;
+  words = subst (StateWords events) (omega (arith, told.2)) words;
+}
+  where
+    by : (new : Left) → ReadsPart (Some said) new None events → said ≡ Ok events
+    by new reads = reads
+whole_of D said new (Some line) events xs others n k (s, later, is, all, silent, at) are told words =
     let o : AreOthersTold D (Some later) (Some line) others n = subst (λ (l : Left). AreOthersTold D l (Some line) others n) is told in
-    record { whole = (events ++ s ∷ []) ++ o.0; says = all ∙ ap (then_events (events ++ s ∷ [])) o.1; parts = split_parts o.0; split = first_part events xs s o.0 are silent; told = o.2; many = o.3 }
+    record {
+      whole = (events ++ s ∷ []) ++ o.0;
+      says = all ∙ ap (then_events (events ++ s ∷ [])) o.1;
+      parts = split_parts o.0;
+      split = first_part events xs s o.0 are silent;
+      told = o.2;
+      many = o.3;
+      words = words_more (events ++ s ∷ []) o.0 k others.answers (words_ended events s k silent words) o.4;
+    }
 
 pub judged_since : (D : Description) (input : Option (List ℕ)) (all new : Left) (silence : Option ℕ) (first others told : PartTold) (n : ℕ) → IfSome input (λ script. all ≡ Some (stated_through script))
     → ReadsThen all new silence (λ events. IsToldLater D events first) → AreOthersTold D new silence others n → TellsThen first others told
-    → IfSome input (λ script. IsJudgedSince D script told.after (told_first told.first) told.warning n)
+    → IfSome input (λ script. IsJudgedSince D script told.after (told_first told.first) told.warning told.answers n)
 judged_since D None all new silence first others told n is reads rest then = tt
 judged_since D (Some script) all new silence first others told n is reads rest then =
     by (subst (λ (l : Left). ReadsThen l new silence (λ events. IsToldLater D events first)) is reads)
   where
-    by : ReadsThen (Some (stated_through script)) new silence (λ events. IsToldLater D events first) → IsJudgedSince D script told.after (told_first told.first) told.warning n
+    by : ReadsThen (Some (stated_through script)) new silence (λ events. IsToldLater D events first) → IsJudgedSince D script told.after (told_first told.first) told.warning told.answers n
     by (events, part, (xs, are), i) =
-        let w = whole_of D (stated_through script) new silence events xs others n part are rest in
+        let w = whole_of D (stated_through script) new silence events xs others n first.answers part are rest i.3 in
         let t : ArePartsTold D (split_parts w.whole) told = subst (λ l. ArePartsTold D l told) (sym w.split) (told_before D events w.parts first others told i w.told then) in
-        record { events = w.whole; says = w.says; judged = t.0; are_judged = t.1; warned = t.2; counted = ap length w.split ∙ ap suc w.many }
+        record { events = w.whole; says = w.says; judged = t.0; are_judged = t.1; warned = t.2; stated = subst (StateWords w.whole) (sym then.3) w.words; counted = ap length w.split ∙ ap suc w.many }
 
 pub judged_from : (P D : Description) (input : Option (List ℕ)) (all new : Left) (silence : Option ℕ) (first others told : PartTold) (n : ℕ) → IfSome input (λ script. all ≡ Some (stated_through script))
     → (G : Description → Type 0) → G P → ReadsThen all new silence (λ events. (P : Description) → G P → IsToldFirst P events first) → AreOthersTold D new silence others n → TellsThen first others told
-    → IfSome input (λ script. IsJudgedFrom P D script (told_first told.first) told.warning n)
+    → IfSome input (λ script. IsJudgedFrom P D script (told_first told.first) told.warning told.answers n)
 judged_from P D None all new silence first others told n is G g reads rest then = tt
 judged_from P D (Some script) all new silence first others told n is G g reads rest then =
     by (subst (λ (l : Left). ReadsThen l new silence (λ events. (P : Description) → G P → IsToldFirst P events first)) is reads)
   where
-    by : ReadsThen (Some (stated_through script)) new silence (λ events. (P : Description) → G P → IsToldFirst P events first) → IsJudgedFrom P D script (told_first told.first) told.warning n
+    by : ReadsThen (Some (stated_through script)) new silence (λ events. (P : Description) → G P → IsToldFirst P events first) → IsJudgedFrom P D script (told_first told.first) told.warning told.answers n
     by (events, part, (xs, are), i) =
-        let w = whole_of D (stated_through script) new silence events xs others n part are rest in
         let f : IsToldFirst P events first = i P g in
+        let w = whole_of D (stated_through script) new silence events xs others n first.answers part are rest f.4 in
         record {
           events = w.whole;
           says = w.says;
@@ -285,6 +331,7 @@ judged_from P D (Some script) all new silence first others told n is G g reads r
           judged_later = w.told.1;
           is = ap told_first then.1 ∙ some_told first.first others.first;
           warned = then.2 ∙ (λ j. joined_warning (f.3 j) (w.told.2 j)) ∙ sym (warned_more f.0 w.told.0);
+          stated = subst (StateWords w.whole) (sym then.3) w.words;
           counted = sym w.many;
         }
 

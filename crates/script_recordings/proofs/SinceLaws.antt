@@ -125,11 +125,11 @@ normal_alike v P normal reached h e =
     ap (λ D. out D h e) reached ∙ out-reach P h e small
 
 -- where a line is told, nothing explains one of the parts, whenever it began
-pub never_told : (D P : Description) → AnswersAlike D P → (input : Option (List ℕ)) (after : Option ℕ) (first : Option UnexplainedLine) (warning : Option ScriptWarning) (n : ℕ) →
-    IfSome input (λ script. IsJudgedSince D script after (told_first first) warning n) → IfSome first (λ line. IfSome input (λ script. NothingExplains P script))
-never_told D P alike input after None warning n judged = tt
-never_told D P alike None after (Some line) warning n judged = tt
-never_told D P alike (Some script) after (Some line) warning n i = parts_never D P alike script i.events i.says (split_parts i.events) after (told_answer line.answer) i.judged i.are_judged [] refl
+pub never_told : (D P : Description) → AnswersAlike D P → (input : Option (List ℕ)) (after : Option ℕ) (first : Option UnexplainedLine) (warning : Option ScriptWarning) (k n : ℕ) →
+    IfSome input (λ script. IsJudgedSince D script after (told_first first) warning k n) → IfSome first (λ line. IfSome input (λ script. NothingExplains P script))
+never_told D P alike input after None warning k n judged = tt
+never_told D P alike None after (Some line) warning k n judged = tt
+never_told D P alike (Some script) after (Some line) warning k n i = parts_never D P alike script i.events i.says (split_parts i.events) after (told_answer line.answer) i.judged i.are_judged [] refl
 
 pub no_part : (input : Option (List ℕ)) (D : Description) (ms : List Marked) → IfSome input (λ script. StatesRecording script (maybe_in ms)) → IsJudgedBy D ms None → IfSome input (HasNoPart D)
 no_part None D ms states none = tt

@@ -14,7 +14,7 @@ use Rattle.rt1553_verify.specs.Stated.{StatedEvent, stated_through}
 use Rattle.rt1553_verify.specs.Verify.{ToldAnswer, told_answer}
 use Rattle.script_recordings.specs.declared.explaining.UnexplainedLine.{UnexplainedLine}
 use Rattle.script_recordings.specs.Parts.{split_parts}
-use Rattle.script_recordings.specs.Seen.{stated_word, IsSeenAs, AreToldAs, StatesRecording, recorded_warning}
+use Rattle.script_recordings.specs.Seen.{stated_word, IsSeenAs, AreToldAs, StatesRecording, StateWords, recorded_warning}
 
 -- what is told of the event of a line in which one word, or none, was seen, or one that is left open, and another can be sent, or none
 abbrev pub told_at : ℕ → MaskedSighting → Option Sending → ToldAnswer
@@ -92,8 +92,9 @@ AreJudgedLater D (events ∷ parts) after told judged =
     × (after ≡ first_some line lines) × (told ≡ first_some one others) × (judged ≡ seen ++ more)
 
 -- What is told of a script that states a recording, from power-up: of its first part, or else of the others, which are judged by what can be
--- reached. A warning says why what is judged shows nothing, where it does. So many slots are in it in which the unit may have been silent.
-pub record IsJudgedFrom (P D : Description) (script : List ℕ) (told : Option ToldAnswer) (warning : Option ScriptWarning) (silences : ℕ) : Type 0 where
+-- reached. A warning says why what is judged shows nothing, where it does. So many words are stated, and so many slots are in it in which the unit may
+-- have been silent.
+pub record IsJudgedFrom (P D : Description) (script : List ℕ) (told : Option ToldAnswer) (warning : Option ScriptWarning) (answers silences : ℕ) : Type 0 where
   pub events : List StatedEvent
   pub says : stated_through script ≡ Ok events
   pub front : List StatedEvent
@@ -108,16 +109,18 @@ pub record IsJudgedFrom (P D : Description) (script : List ℕ) (told : Option T
   pub judged_later : AreJudgedLater D parts after later judged
   pub is : told ≡ first_some first later
   pub warned : warning ≡ recorded_warning (recording ++ judged)
+  pub stated : StateWords events answers
   pub counted : silences ≡ length parts
 
 -- What is told of a script that states a recording which began at any time: of all its parts, and the line after which the first of them is
 -- judged that is.
-pub record IsJudgedSince (D : Description) (script : List ℕ) (after : Option ℕ) (told : Option ToldAnswer) (warning : Option ScriptWarning) (silences : ℕ) : Type 0 where
+pub record IsJudgedSince (D : Description) (script : List ℕ) (after : Option ℕ) (told : Option ToldAnswer) (warning : Option ScriptWarning) (answers silences : ℕ) : Type 0 where
   pub events : List StatedEvent
   pub says : stated_through script ≡ Ok events
   pub judged : List MaybeSighting
   pub are_judged : AreJudgedLater D (split_parts events) after told judged
   pub warned : warning ≡ recorded_warning judged
+  pub stated : StateWords events answers
   pub counted : length (split_parts events) ≡ suc silences
 
 -- no part of the recording of a script begins afresh after a pause

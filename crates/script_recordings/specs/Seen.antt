@@ -110,6 +110,10 @@ abbrev pub shows_word : MaybeSighting → Bool
 shows_word (Seen x) = is_some x.sighting.sent
 shows_word (MaybeGap bus) = false
 
+-- so many of these events are told with a word that was sent
+abbrev pub StateWords : List StatedEvent → ℕ → Type 0
+StateWords ss n = (xs : List MaybeSighting) × AreToldAs (heard ss) xs × (n ≡ length (filter shows_word xs))
+
 -- a recording without an event, or without a word that was sent, shows nothing
 abbrev pub recorded_warning : List MaybeSighting → Option ScriptWarning
 recorded_warning xs = stated_warning (not (length xs == 0)) (length (filter shows_word xs))

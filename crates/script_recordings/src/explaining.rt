@@ -163,16 +163,19 @@ impl PartTold {
         }
     }
 
-    /// What is told of these parts and then of others.
-    fn then(self, others: PartTold) -> PartTold
-        ensures { TellsThen self others result }
+    /// What is told of these parts and then of others. More than 2^64 - 1 words are as if memory had run out.
+    fn then(self, others: PartTold) -> Result<PartTold, AllocError>
+        ensures { IfOk result (TellsThen self others) }
     {
-        PartTold {
-            answers: self.answers.saturating_add(others.answers),
+        let Some(answers) = self.answers.checked_add(others.answers) else {
+            return Err(AllocError);
+        };
+        Ok(PartTold {
+            answers,
             warning: joined_warning(self.warning, others.warning),
             after: first_some(self.after, others.after),
             first: first_some(self.first, others.first),
-        }
+        })
     }
 }
 
@@ -184,6 +187,7 @@ fn later_told(
 ) -> Result<PartTold, AllocError>
     ensures told { IfOk result (λ told. TellsJudged judged told.after told.first) }
     ensures warned { IfOk result (λ told. (ms : List Marked) → IsTally ms tally.now → told.warning ≡ recorded_warning (judged_of judged ms)) }
+    ensures answers { IfOk result (λ told. told.answers ≡ tally.now.answers) }
 {
     match judged {
         Some(judged) => Ok(PartTold {
@@ -256,7 +260,7 @@ fn judge_others<B: BufRead + Drop>(
     let (mut told, mut parts) = (PartTold::none(), 0_u64);
     'parts: while reader.silence.is_some() {
         let part = judge_later(alloc, normal, reader)?;
-        told = told.then(part);
+        told = told.then(part)?;
         if parts == u64::MAX {
             return Err(RecordingFault::Script(StatedFault::Memory));
         }
@@ -274,13 +278,13 @@ pub fn watch_recording<B: BufRead + Drop>(
     normal: &Normal,
     input: B,
 ) -> Result<Explained, RecordingFault>
-    ensures judged { (P : Description) → description_in normal.now ≡ reach P → IfOk result (λ it. IfSome (B.remaining input) (λ script. IsJudgedFrom P (description_in normal.now) script (told_first it.first) it.warning it.silences)) }
+    ensures judged { (P : Description) → description_in normal.now ≡ reach P → IfOk result (λ it. IfSome (B.remaining input) (λ script. IsJudgedFrom P (description_in normal.now) script (told_first it.first) it.warning it.answers it.silences)) }
     ensures refused { IfErr result (λ fault. IfSome (B.remaining input) (λ script. StatesNoRecording script fault)) }
 {
     let mut reader = RecordingReader::new(alloc, normal.address(), input);
     let first = judge_first(alloc, normal, &mut reader)?;
     let (others, silences) = judge_others(alloc, normal, &mut reader)?;
-    let told = first.then(others);
+    let told = first.then(others)?;
     Ok(Explained {
         answers: told.answers,
         silences,
@@ -297,14 +301,14 @@ pub fn watch_since<B: BufRead + Drop>(
     normal: &Normal,
     input: B,
 ) -> Result<ExplainedSince, RecordingFault>
-    ensures judged { IfOk result (λ it. IfSome (B.remaining input) (λ script. IsJudgedSince (description_in normal.now) script it.after (told_first it.first) it.warning it.silences)) }
+    ensures judged { IfOk result (λ it. IfSome (B.remaining input) (λ script. IsJudgedSince (description_in normal.now) script it.after (told_first it.first) it.warning it.answers it.silences)) }
     ensures never { (P : Description) → description_in normal.now ≡ reach P → IfOk result (λ it. IfSome it.first (λ line. IfSome (B.remaining input) (λ script. NothingExplains P script))) }
     ensures refused { IfErr result (λ fault. IfSome (B.remaining input) (λ script. StatesNoRecording script fault)) }
 {
     let mut reader = RecordingReader::new(alloc, normal.address(), input);
     let first = judge_later(alloc, normal, &mut reader)?;
     let (others, silences) = judge_others(alloc, normal, &mut reader)?;
-    let told = first.then(others);
+    let told = first.then(others)?;
     Ok(ExplainedSince {
         answers: told.answers,
         silences,

@@ -16,20 +16,20 @@ use Rattle.rt1553_verify.specs.Verify.{ToldAnswer, told_answer, wrong_answers_fr
 use Rattle.script_recordings.specs.declared.explaining.UnexplainedLine.{UnexplainedLine}
 use Rattle.script_recordings.specs.Explained.{told_first, IsJudgedFrom, IsJudgedSince, NothingExplains}
 use Rattle.rt1553_tool_args.specs.declared.command.ScriptKind.TheVariants.{Recording, LaterRecording}
-use Rattle.tool_verify.specs.Passing.{tells_nothing, scoped, test_kind, unjudged_by, unjudged_since, unjudged_test, SaysBy, SaysOf}
+use Rattle.tool_verify.specs.Passing.{tells_nothing, scoped, test_kind, unjudged_by, unjudged_since, unjudged_test, TestStates, SaysBy, SaysOf}
 
 -- the verdict on the events of a test is that on the test
-pub says_so : (on_bus : Bool) (P : Description) (script : List ℕ) (stated seen : List StatedEvent) (same : Bool) (unjudged : Option Unjudged)
-    → stated_in script ≡ Ok stated → seen ≡ scoped on_bus stated → same ≡ tells_nothing (Ok (wrong_answers_from P [] seen)) → unjudged ≡ unjudged_test (Ok stated)
-    → SaysBy (test_kind on_bus) P script (verdict_of same unjudged) 0
-says_so false P script stated seen same unjudged reads is says why =
+pub says_so : (on_bus : Bool) (P : Description) (script : List ℕ) (stated seen : List StatedEvent) (answers : ℕ) (same : Bool) (unjudged : Option Unjudged)
+    → stated_in script ≡ Ok stated → answers ≡ length (filter states_answer stated) → seen ≡ scoped on_bus stated → same ≡ tells_nothing (Ok (wrong_answers_from P [] seen)) → unjudged ≡ unjudged_test (Ok stated)
+    → SaysBy (test_kind on_bus) P script (verdict_of same unjudged) answers 0
+says_so false P script stated seen answers same unjudged reads many is says why =
     let told = subst (λ (l : List StatedEvent). same ≡ tells_nothing (Ok (wrong_answers_from P [] l))) is says ∙ ap tells_nothing (sym (ap (by_script P) reads)) in
     let reason = why ∙ ap unjudged_test (sym reads) in
-    (λ j. verdict_of (told j) (reason j), refl)
-says_so true P script stated seen same unjudged reads is says why =
+    (λ j. verdict_of (told j) (reason j), (stated, reads, many), refl)
+says_so true P script stated seen answers same unjudged reads many is says why =
     let told = subst (λ (l : List StatedEvent). same ≡ tells_nothing (Ok (wrong_answers_from P [] l))) is says ∙ ap tells_nothing (sym (ap (on_bus_by_script P) reads)) in
     let reason = why ∙ ap unjudged_test (sym reads) in
-    (λ j. verdict_of (told j) (reason j), refl)
+    (λ j. verdict_of (told j) (reason j), (stated, reads, many), refl)
 
 -- the answers that are stated, counted in the code and by the definitions
 pub same_answers : (stated : List Stated) → length (filter (λ s. states_answer (shown s)) stated) ≡ length (filter states_answer (map shown stated))
@@ -55,15 +55,19 @@ none_told : (first : Option UnexplainedLine) → is_none first ≡ is_none (told
 none_told None = refl
 none_told (Some line) = refl
 
+-- counts that are handed on
+handed_on : (Says : ℕ → ℕ → Type 0) (k n l m : ℕ) → (l ≡ k) × (m ≡ n) → Says k n → Says l m
+handed_on Says k n l m same says = subst (λ l. Says l m) (sym same.0) (subst (Says k) (sym same.1) says)
+
 -- the verdict on a recording, by what is told of it
-pub says_recorded : (input : Option (List ℕ)) (value : Parts) (first : Option UnexplainedLine) (warning : Option ScriptWarning) (n m : ℕ) (same : Bool) (unjudged : Option Unjudged)
-    → ((P : Description) → description_in value ≡ reach P → IfSome input (λ script. IsJudgedFrom P (description_in value) script (told_first first) warning n))
-    → same ≡ is_none first → unjudged ≡ unjudged_by warning → m ≡ n → IfSome input (λ script. SaysOf Recording value script (verdict_of same unjudged) m)
-says_recorded None value first warning n m same unjudged judged told why count = tt
-says_recorded (Some script) value first warning n m same unjudged judged told why count = λ P reached. record {
+pub says_recorded : (input : Option (List ℕ)) (value : Parts) (first : Option UnexplainedLine) (warning : Option ScriptWarning) (k n l m : ℕ) (same : Bool) (unjudged : Option Unjudged)
+    → ((P : Description) → description_in value ≡ reach P → IfSome input (λ script. IsJudgedFrom P (description_in value) script (told_first first) warning k n))
+    → same ≡ is_none first → unjudged ≡ unjudged_by warning → (l ≡ k) × (m ≡ n) → IfSome input (λ script. SaysOf Recording value script (verdict_of same unjudged) l m)
+says_recorded None value first warning k n l m same unjudged judged told why counts = tt
+says_recorded (Some script) value first warning k n l m same unjudged judged told why counts = λ P reached. record {
   told = told_first first;
   warning = warning;
-  judged = subst (λ k. IsJudgedFrom P (reach P) script (told_first first) warning k) (sym count) (subst (λ D. IsJudgedFrom P D script (told_first first) warning n) reached (judged P reached));
+  judged = handed_on (IsJudgedFrom P (reach P) script (told_first first) warning) k n l m counts (subst (λ D. IsJudgedFrom P D script (told_first first) warning k n) reached (judged P reached));
   is = λ j. verdict_of ((told ∙ none_told first) j) (why j);
 }
 
@@ -73,16 +77,16 @@ no_failure None e = absurd (cc)
 no_failure (Some why) e = absurd (cc)
 
 -- the verdict on a recording that began at any time
-pub says_later : (input : Option (List ℕ)) (value : Parts) (after : Option ℕ) (warning : Option ScriptWarning) (n m : ℕ) (first : Option UnexplainedLine) (same : Bool) (unjudged : Option Unjudged) →
-    IfSome input (λ script. IsJudgedSince (description_in value) script after (told_first first) warning n) →
+pub says_later : (input : Option (List ℕ)) (value : Parts) (after : Option ℕ) (warning : Option ScriptWarning) (k n l m : ℕ) (first : Option UnexplainedLine) (same : Bool) (unjudged : Option Unjudged) →
+    IfSome input (λ script. IsJudgedSince (description_in value) script after (told_first first) warning k n) →
     ((P : Description) → description_in value ≡ reach P → IfSome first (λ line. IfSome input (λ script. NothingExplains P script))) →
-    same ≡ is_none first → unjudged ≡ unjudged_since after warning → m ≡ n → IfSome input (λ script. SaysOf LaterRecording value script (verdict_of same unjudged) m)
-says_later None value after warning n m first same unjudged judged never told why count = tt
-says_later (Some script) value after warning n m first same unjudged judged never told why count = λ P reached. record {
+    same ≡ is_none first → unjudged ≡ unjudged_since after warning → (l ≡ k) × (m ≡ n) → IfSome input (λ script. SaysOf LaterRecording value script (verdict_of same unjudged) l m)
+says_later None value after warning k n l m first same unjudged judged never told why counts = tt
+says_later (Some script) value after warning k n l m first same unjudged judged never told why counts = λ P reached. record {
   after = after;
   told = told_first first;
   warning = warning;
-  judged = subst (λ k. IsJudgedSince (reach P) script after (told_first first) warning k) (sym count) (subst (λ D. IsJudgedSince D script after (told_first first) warning n) reached judged);
+  judged = handed_on (IsJudgedSince (reach P) script after (told_first first) warning) k n l m counts (subst (λ D. IsJudgedSince D script after (told_first first) warning k n) reached judged);
   is = λ j. verdict_of ((told ∙ none_told first) j) (why j);
   never = λ fails. by P first refl fails (never P reached);
 }

@@ -11,7 +11,7 @@ use Rattle.script_recordings.specs.Explained.{IsJudgedFrom, IsJudgedSince, Nothi
 use Rattle.script_recordings.specs.declared.reading.RecordingFault.{RecordingFault}
 use Rattle.script_recordings.specs.declared.reading.RecordingFault.TheVariants as recording
 use Rattle.rt1553_verify.specs.declared.stated.ScriptWarning.{ScriptWarning}
-use Rattle.rt1553_report.specs.Results.{outcome_verdict}
+use Rattle.rt1553_report.specs.Results.{outcome_answers, outcome_verdict}
 use Rattle.rt1553_report.specs.Verdict.{verdict_of}
 use Rattle.rt1553_report.specs.declared.result.ScriptOutcome.{ScriptOutcome}
 use Rattle.rt1553_report.specs.declared.verdict.Unjudged.{Unjudged}
@@ -70,6 +70,10 @@ abbrev pub unjudged_test : Result (List StatedEvent) StatedFault → Option Unju
 unjudged_test (Err fault) = None
 unjudged_test (Ok events) = unjudged_by (stated_warning (not (length events == 0)) (length (filter states_answer events)))
 
+-- a test states so many answers
+abbrev pub TestStates : List ℕ → ℕ → Type 0
+TestStates script answers = (events : List StatedEvent) × (stated_in script ≡ Ok events) × (answers ≡ length (filter states_answer events))
+
 -- why nothing of a recording that began at any time is judged: no part of it begins afresh after a pause, or that of a warning
 abbrev pub unjudged_since : Option ℕ → Option ScriptWarning → Option Unjudged
 unjudged_since None warning = Some NoPart
@@ -77,39 +81,43 @@ unjudged_since (Some line) warning = unjudged_by warning
 
 -- The verdict on a recording, for the terminal of P: it fails exactly if nothing explains one of its parts. What is explained passes, if a word was
 -- sent in what is judged; else nothing of it is.
-pub record SaysRecorded (P : Description) (script : List ℕ) (verdict : ScriptVerdict) (silences : ℕ) : Type 0 where
+pub record SaysRecorded (P : Description) (script : List ℕ) (verdict : ScriptVerdict) (answers silences : ℕ) : Type 0 where
   pub told : Option ToldAnswer
   pub warning : Option ScriptWarning
-  pub judged : IsJudgedFrom P (reach P) script told warning silences
+  pub judged : IsJudgedFrom P (reach P) script told warning answers silences
   pub is : verdict ≡ verdict_of (is_none told) (unjudged_by warning)
 
 -- The verdict on a recording that began at any time, for the terminal of P, by what of P can be reached. It fails exactly if what is judged of one of
 -- its parts is not explained, whatever came before; then nothing explains that part, whenever it began. Without such a part, or a word
 -- that was sent in it, nothing is judged.
-pub record SaysSince (P : Description) (script : List ℕ) (verdict : ScriptVerdict) (silences : ℕ) : Type 0 where
+pub record SaysSince (P : Description) (script : List ℕ) (verdict : ScriptVerdict) (answers silences : ℕ) : Type 0 where
   pub after : Option ℕ
   pub told : Option ToldAnswer
   pub warning : Option ScriptWarning
-  pub judged : IsJudgedSince (reach P) script after told warning silences
+  pub judged : IsJudgedSince (reach P) script after told warning answers silences
   pub is : verdict ≡ verdict_of (is_none told) (unjudged_since after warning)
   pub never : verdict ≡ Failed → NothingExplains P script
 
 -- It is the verdict for the terminal of P: on a test, by whether nothing is told of it, or of what the bus alone shows of it, and whether
--- it states an answer; and on a recording, by whether some behaviour of the subsystem explains it. In so many slots the unit may have been silent.
-abbrev pub SaysBy : ScriptKind → Description → List ℕ → ScriptVerdict → ℕ → Type 0
-SaysBy Test P script verdict silences = (verdict ≡ verdict_of (tells_nothing (verified P script)) (unjudged_test (stated_in script))) × (silences ≡ 0)
-SaysBy BusTest P script verdict silences = (verdict ≡ verdict_of (tells_nothing (verified_on_bus P script)) (unjudged_test (stated_in script))) × (silences ≡ 0)
-SaysBy Recording P script verdict silences = SaysRecorded P script verdict silences
-SaysBy LaterRecording P script verdict silences = SaysSince P script verdict silences
+-- it states an answer; and on a recording, by whether some behaviour of the subsystem explains it. So many answers are stated, and in so many slots the
+-- unit may have been silent.
+abbrev pub SaysBy : ScriptKind → Description → List ℕ → ScriptVerdict → ℕ → ℕ → Type 0
+SaysBy Test P script verdict answers silences =
+    (verdict ≡ verdict_of (tells_nothing (verified P script)) (unjudged_test (stated_in script))) × TestStates script answers × (silences ≡ 0)
+SaysBy BusTest P script verdict answers silences =
+    (verdict ≡ verdict_of (tells_nothing (verified_on_bus P script)) (unjudged_test (stated_in script))) × TestStates script answers × (silences ≡ 0)
+SaysBy Recording P script verdict answers silences = SaysRecorded P script verdict answers silences
+SaysBy LaterRecording P script verdict answers silences = SaysSince P script verdict answers silences
 
 -- it is the verdict for the terminal of which this can be reached
-abbrev pub SaysOf : ScriptKind → Parts → List ℕ → ScriptVerdict → ℕ → Type 0
-SaysOf kind value script verdict silences = (P : Description) → description_in value ≡ reach P → SaysBy kind P script verdict silences
+abbrev pub SaysOf : ScriptKind → Parts → List ℕ → ScriptVerdict → ℕ → ℕ → Type 0
+SaysOf kind value script verdict answers silences = (P : Description) → description_in value ≡ reach P → SaysBy kind P script verdict answers silences
 
--- an outcome has such a verdict
+-- an outcome has such a verdict, and tells so many answers
 abbrev pub HasVerdict : ScriptKind → Parts → List ℕ → ScriptOutcome → Type 0
 HasVerdict kind value script outcome =
-    (verdict : ScriptVerdict) × (silences : ℕ) × (outcome_verdict outcome ≡ Some verdict) × SaysOf kind value script verdict silences
+    (verdict : ScriptVerdict) × (answers : ℕ) × (silences : ℕ) × (outcome_verdict outcome ≡ Some verdict) × (outcome_answers outcome ≡ Some answers)
+    × SaysOf kind value script verdict answers silences
 
 -- how much a status counts among those of several scripts: 3, that nothing was judged, more than 0 and less than 1
 abbrev pub gravity : ℕ → ℕ

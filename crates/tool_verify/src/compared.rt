@@ -123,7 +123,7 @@ fn compare_test(
     script: &[u8],
     on_bus: bool,
 ) -> Result<Compared, ScriptFault>
-    ensures { IfOk result (λ it. SaysOf (test_kind on_bus) normal.now script.now (verdict_of (length it.wrong.items == 0) it.unjudged) it.silences) }
+    ensures { IfOk result (λ it. SaysOf (test_kind on_bus) normal.now script.now (verdict_of (length it.wrong.items == 0) it.unjudged) it.answers it.silences) }
 {
     let stated = read_stated(alloc, script)?;
     let answers = answers_in(stated.as_slice());
@@ -152,7 +152,7 @@ fn compared_recording(
 ) -> Result<Compared, AllocError>
     ensures told { IfOk result (λ it. (length it.wrong.items == 0) ≡ is_none first) }
     ensures unjudged { IfOk result (λ it. it.unjudged ≡ unjudged) }
-    ensures silences { IfOk result (λ it. it.silences ≡ silences) }
+    ensures counts { IfOk result (λ it. (it.answers ≡ answers) × (it.silences ≡ silences)) }
 {
     let (mut wrong, mut commands) = (Vec::new(alloc), Vec::new(alloc));
     if let Some(UnexplainedLine { answer, command }) = first {
@@ -175,7 +175,7 @@ pub fn compare_recording<B: BufRead + Drop>(
     normal: &Normal,
     input: B,
 ) -> Result<Compared, ScriptFault>
-    ensures { IfOk result (λ it. IfSome (B.remaining input) (λ script. SaysOf ScriptKind.Recording normal.now script (verdict_of (length it.wrong.items == 0) it.unjudged) it.silences)) }
+    ensures { IfOk result (λ it. IfSome (B.remaining input) (λ script. SaysOf ScriptKind.Recording normal.now script (verdict_of (length it.wrong.items == 0) it.unjudged) it.answers it.silences)) }
 {
     let Explained {
         answers,
@@ -194,7 +194,7 @@ pub fn compare_later<B: BufRead + Drop>(
     normal: &Normal,
     input: B,
 ) -> Result<Compared, ScriptFault>
-    ensures { IfOk result (λ it. IfSome (B.remaining input) (λ script. SaysOf ScriptKind.LaterRecording normal.now script (verdict_of (length it.wrong.items == 0) it.unjudged) it.silences)) }
+    ensures { IfOk result (λ it. IfSome (B.remaining input) (λ script. SaysOf ScriptKind.LaterRecording normal.now script (verdict_of (length it.wrong.items == 0) it.unjudged) it.answers it.silences)) }
 {
     let ExplainedSince {
         answers,
@@ -215,7 +215,7 @@ pub fn compare_script(
     script: &[u8],
     kind: ScriptKind,
 ) -> Result<Compared, ScriptFault>
-    ensures { IfOk result (λ it. SaysOf kind normal.now script.now (verdict_of (length it.wrong.items == 0) it.unjudged) it.silences) }
+    ensures { IfOk result (λ it. SaysOf kind normal.now script.now (verdict_of (length it.wrong.items == 0) it.unjudged) it.answers it.silences) }
 {
     match kind {
         ScriptKind::Test => compare_test(alloc, normal, script, false),
@@ -232,7 +232,7 @@ fn compare_read<B: BufRead + Drop>(
     input: B,
     is_later: bool,
 ) -> Result<Compared, ScriptFault>
-    ensures { IfOk result (λ it. IfSome (B.remaining input) (λ script. SaysOf (recording_kind is_later) normal.now script (verdict_of (length it.wrong.items == 0) it.unjudged) it.silences)) }
+    ensures { IfOk result (λ it. IfSome (B.remaining input) (λ script. SaysOf (recording_kind is_later) normal.now script (verdict_of (length it.wrong.items == 0) it.unjudged) it.answers it.silences)) }
 {
     if is_later {
         compare_later(alloc, normal, input)
@@ -249,8 +249,8 @@ pub fn compare_open<F: Read + Drop>(
     rest: Option<F>,
     kind: ScriptKind,
 ) -> Result<Compared, ScriptFault>
-    ensures whole { IfOk result (λ it. rest ≡ None → SaysOf kind normal.now script.now (verdict_of (length it.wrong.items == 0) it.unjudged) it.silences) }
-    ensures on { IfOk result (λ it. IfSome rest (λ file. IfSome (F.remaining file) (λ more. SaysOf (recording_kind (is_later kind)) normal.now (script.now ++ more) (verdict_of (length it.wrong.items == 0) it.unjudged) it.silences))) }
+    ensures whole { IfOk result (λ it. rest ≡ None → SaysOf kind normal.now script.now (verdict_of (length it.wrong.items == 0) it.unjudged) it.answers it.silences) }
+    ensures on { IfOk result (λ it. IfSome rest (λ file. IfSome (F.remaining file) (λ more. SaysOf (recording_kind (is_later kind)) normal.now (script.now ++ more) (verdict_of (length it.wrong.items == 0) it.unjudged) it.answers it.silences))) }
 {
     let Some(rest) = rest else {
         return compare_script(alloc, normal, script, kind);

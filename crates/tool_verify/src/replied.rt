@@ -99,7 +99,7 @@ fn words_explained(
 }
 
 /// How many data words are missing in the slot of a recording that nothing explains: with so many more it is explained up to there. 0 where
-/// none is missing, or the script does not have the line.
+/// none is missing, in a test, and where the script does not have the line.
 pub fn words_missing(
     alloc: Global,
     normal: &Normal,
@@ -113,6 +113,9 @@ pub fn words_missing(
     let ([], [bus, _, b'd', ..]) = (first.expected.as_slice(), first.came.as_slice()) else {
         return Ok(0);
     };
+    if matches!(kind, ScriptKind::Test | ScriptKind::BusTest) {
+        return Ok(0);
+    }
     match lines_up_to(alloc, script, first.line)? {
         Some(text) => words_explained(alloc, normal, text, first.line, *bus, kind),
         None => Ok(0),

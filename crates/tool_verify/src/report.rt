@@ -174,13 +174,23 @@ fn draw_messages<R: AllocGlobal>(
     }
 }
 
-/// The script that explains a recording; empty where none is made.
+/// Whether a recording leaves open whether the unit was silent in a slot.
+fn has_open_slot(recording: &[u8]) -> bool {
+    recording
+        .split(|byte| *byte == b'\n')
+        .any(|line| line == b"#? slot".as_slice())
+}
+
+/// The script that explains a recording; empty where none is made: none behind a slot in which it is left open whether the unit was silent.
 fn explaining_of(
     alloc: Global,
     normal: &Normal,
     recording: &[u8],
     kind: ScriptKind,
 ) -> Result<Vec<u8>, ToolFault> {
+    if has_open_slot(recording) {
+        return Ok(Vec::new(alloc));
+    }
     match explaining_script(alloc, normal, recording, kind) {
         Ok(explaining) => Ok(explaining),
         Err(fault) if is_memory(fault) => Err(ToolFault::Memory),
@@ -234,7 +244,6 @@ fn drawing_of<R: AllocGlobal>(
 ) -> Result<Option<String>, ToolFault> {
     match (it.wrong.as_slice(), it.notes.wording) {
         ([], _) => Ok(None),
-        (_, Wording::Recording) if it.silences > 0 => Ok(Some(String::new(rt.alloc()))),
         ([first, ..], Wording::Recording) => {
             recorded_drawing(rt, played, normal, name, script, first)
         }

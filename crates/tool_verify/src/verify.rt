@@ -395,7 +395,7 @@ pub fn play_script<R: AllocGlobal + Eprint, F: Read + Drop>(
     script: &LoadedScript,
     rest: Option<F>,
 ) -> Result<PlayedScript, ToolFault>
-    ensures { IfOk result (λ it. rest ≡ None → SaysOf played.now.kind normal.now script.now.text.items (verdict_of (length it.wrong.items == 0) it.unjudged) it.silences) }
+    ensures { IfOk result (λ it. rest ≡ None → SaysOf played.now.kind normal.now script.now.text.items (verdict_of (length it.wrong.items == 0) it.unjudged) it.answers it.silences) }
 {
     let text = script.text.as_slice();
     match compare_open(rt.alloc(), normal, text, rest, played.kind) {
@@ -427,7 +427,7 @@ fn tell_script<R: Files + AllocGlobal + Eprint, W: Write>(
     report: ScriptReport,
     output: &mut W,
 ) -> Result<PlayedScript, ToolFault>
-    ensures { IfOk result (λ it. (profile : LoadedProfile) × IsPlayedTo played.now.to profile × (rest ≡ None → SaysOf played.now.kind profile.normal script.now.text.items (verdict_of (length it.wrong.items == 0) it.unjudged) it.silences)) }
+    ensures { IfOk result (λ it. (profile : LoadedProfile) × IsPlayedTo played.now.to profile × (rest ≡ None → SaysOf played.now.kind profile.normal script.now.text.items (verdict_of (length it.wrong.items == 0) it.unjudged) it.answers it.silences)) }
 {
     let profile = played.of_script(rt, name, script.text.as_slice())?;
     let it = play_script(rt, played, &profile.normal, name, script, rest)?;

@@ -1,5 +1,5 @@
 -- What is told of a part of a recording, and of parts one after the other.
-use Rattle.std.specs.Prelude.{ℕ, ◌≡◌, Option, Some, None, Ok, List, [], drop, length}
+use Rattle.std.specs.Prelude.{ℕ, ◌≡◌, ◌+◌, Option, Some, None, Ok, List, [], drop, length}
 use Rattle.bus_legal.specs.Description.{Description}
 use Rattle.terminal_recordings.specs.MaybeGaps.{MaybeSighting}
 use Rattle.recorded_terminal.specs.declared.later.FreshPart.{FreshPart}
@@ -10,7 +10,7 @@ use Rattle.rt1553_verify.specs.declared.stated.ScriptWarning.TheVariants.{NoEven
 use Rattle.rt1553_verify.specs.Stated.{StatedEvent}
 use Rattle.script_recordings.specs.declared.explaining.PartTold.{PartTold}
 use Rattle.script_recordings.specs.Parts.{split_parts}
-use Rattle.script_recordings.specs.Seen.{recorded_warning}
+use Rattle.script_recordings.specs.Seen.{StateWords, recorded_warning}
 use Rattle.script_recordings.specs.Explained.{first_some, told_first, IsJudgedFirst, IsJudgedLater, AreJudgedLater}
 use Rattle.script_recordings.specs.inner.Reads.{Left}
 
@@ -28,20 +28,21 @@ judged_of (Some it) ms = maybe_in (drop it.before ms)
 
 -- nothing is told
 abbrev pub TellsNone : PartTold → Type 0
-TellsNone t = (t.after ≡ None) × (t.first ≡ None) × (t.warning ≡ recorded_warning [])
+TellsNone t = (t.after ≡ None) × (t.first ≡ None) × (t.warning ≡ recorded_warning []) × (t.answers ≡ 0)
 
 -- what is told of parts and then of others
 abbrev pub TellsThen : PartTold → PartTold → PartTold → Type 0
 TellsThen t others all =
     (all.after ≡ first_some t.after others.after) × (all.first ≡ first_some t.first others.first) × (all.warning ≡ joined_warning t.warning others.warning)
+    × (all.answers ≡ t.answers + others.answers)
 
 -- this is told of a part, from power-up
 abbrev pub IsToldFirst : Description → List StatedEvent → PartTold → Type 0
-IsToldFirst P events t = (recording : List MaybeSighting) × IsJudgedFirst P events (told_first t.first) recording × (t.after ≡ None) × (t.warning ≡ recorded_warning recording)
+IsToldFirst P events t = (recording : List MaybeSighting) × IsJudgedFirst P events (told_first t.first) recording × (t.after ≡ None) × (t.warning ≡ recorded_warning recording) × StateWords events t.answers
 
 -- of one that began at any time
 abbrev pub IsToldLater : Description → List StatedEvent → PartTold → Type 0
-IsToldLater D events t = (judged : List MaybeSighting) × IsJudgedLater D events t.after (told_first t.first) judged × (t.warning ≡ recorded_warning judged)
+IsToldLater D events t = (judged : List MaybeSighting) × IsJudgedLater D events t.after (told_first t.first) judged × (t.warning ≡ recorded_warning judged) × StateWords events t.answers
 
 -- of parts one after the other
 abbrev pub ArePartsTold : Description → List (List StatedEvent) → PartTold → Type 0
@@ -49,6 +50,7 @@ ArePartsTold D parts t = (judged : List MaybeSighting) × AreJudgedLater D parts
 
 -- of so many parts behind one that ended: none, if it ended with the script
 abbrev pub AreOthersTold : Description → Left → Option ℕ → PartTold → ℕ → Type 0
-AreOthersTold D left None t n = ArePartsTold D [] t × (n ≡ 0)
+AreOthersTold D left None t n = ArePartsTold D [] t × (n ≡ 0) × (t.answers ≡ 0)
 AreOthersTold D None (Some line) t n = Unit {0}
-AreOthersTold D (Some said) (Some line) t n = (events : List StatedEvent) × (said ≡ Ok events) × ArePartsTold D (split_parts events) t × (length (split_parts events) ≡ n)
+AreOthersTold D (Some said) (Some line) t n =
+    (events : List StatedEvent) × (said ≡ Ok events) × ArePartsTold D (split_parts events) t × (length (split_parts events) ≡ n) × StateWords events t.answers

@@ -10,9 +10,10 @@ use Rattle.script_recordings.specs.Seen.{shows_word}
 abbrev pub words_stated : List Marked → List MaybeSighting
 words_stated ms = filter shows_word (maybe_in ms)
 
--- so many sightings: no word comes behind so many of them as end with the last, and one comes behind fewer
+-- so many sightings, and words: none comes behind so many sightings as end with the last, and one comes behind fewer
 pub record IsTally (ms : List Marked) (t : Tally) : Type 0 where
   pub seen : t.seen ≡ length ms
+  pub answers : t.answers ≡ length (words_stated ms)
   pub within : t.last ≤ length ms
   pub none : words_stated (drop t.last ms) ≡ []
   pub some : (k : ℕ) → k < t.last → words_stated (drop k ms) ≡ [] → ⊥

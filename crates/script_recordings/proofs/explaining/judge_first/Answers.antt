@@ -8,7 +8,7 @@ use Rattle.recorded_terminal.specs.Marks.{maybe_in}
 use Rattle.script_recordings.specs.inner.Reads.{NextSeen}
 use Rattle.script_recordings.proofs.ReadLaws.{part_none, part_more, part_fault, watch_refused}
 use Rattle.script_recordings.proofs.ExplainedLaws.{judged_first}
-use Rattle.script_recordings.proofs.PartLaws.{reads_then}
+use Rattle.script_recordings.proofs.PartLaws.{reads_then, words_told}
 use Rattle.script_recordings.proofs.explaining.judge_first.Goals as goal
 
 pub sightings-init : goal.sightings-init
@@ -45,6 +45,7 @@ returns-clause-judged g c =
       judged_first events i.0 c.in_ok-end.field-0 _ P Q alike are c.in_ok-first_told.ensures (c.in_ok-end.ensures.first Q [] i.0 (i.1 Q c.in_ok-watch.ensures)),
       refl,
       c.warning_behind.ensures i.0 i.3,
+      words_told events i.0 c.sightings.tally _ are i.3 refl,
     ))
 
 pub returns-in_err-see-clause-refused : goal.returns-in_err-see-clause-refused

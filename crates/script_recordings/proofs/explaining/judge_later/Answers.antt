@@ -10,7 +10,7 @@ use Rattle.script_recordings.specs.inner.Reads.{NextSeen}
 use Rattle.script_recordings.specs.inner.PartsTold.{judged_of}
 use Rattle.script_recordings.proofs.ReadLaws.{part_none, part_more, part_fault, watch_refused}
 use Rattle.script_recordings.proofs.SinceLaws.{can_begin, judged_later}
-use Rattle.script_recordings.proofs.PartLaws.{reads_then, fewer_by}
+use Rattle.script_recordings.proofs.PartLaws.{reads_then, words_told, fewer_by}
 use Rattle.script_recordings.proofs.explaining.judge_later.Goals as goal
 
 pub sightings-init : goal.sightings-init
@@ -53,6 +53,7 @@ returns-clause-judged g c =
       judged_of c.in_ok-end.field-0 i.0,
       judged_later D events i.0 c.in_ok-end.field-0 _ _ are c.in_ok-later_told.ensures.told (c.in_ok-end.ensures.judged D i.0 watched),
       c.in_ok-later_told.ensures.warned i.0 i.3,
+      words_told events i.0 c.sightings.tally _ are i.3 c.in_ok-later_told.ensures.answers,
     ))
 
 pub returns-in_err-see-clause-refused : goal.returns-in_err-see-clause-refused

@@ -1,4 +1,4 @@
-use Rattle.std.proofs.Common.{◌≡◌, ◌∙◌, sym, subst, true}
+use Rattle.std.proofs.Common.{◌∙◌, sym}
 use Rattle.std.proofs.lemmas.Result.{err_from_is_err_and}
 use Rattle.bus_legal.specs.Parts.{description_in}
 use Rattle.rt1553_verify.specs.Reader.{left_in, turns_left}
@@ -11,8 +11,8 @@ parts-init g c = others_none (description_in c.args.normal.now) (left_in g.B.Rea
 pub parts-preserved : goal.parts-preserved
 parts-preserved g c =
     others_more (description_in c.args.normal.now) (left_in g.B.Read.remaining c.args.reader.now.script) c.args.reader.now.silence (left_in g.B.Read.remaining c.parts.reader.script)
-    (left_in g.B.Read.remaining c.judge_later.new.reader.script) c.parts.reader.silence c.judge_later.new.reader.silence c.parts.told c.in_ok-part.part c.then-told.result c.parts.parts
-    (sym c.is_some.ensures ∙ c.parts-test.true) c.parts.invariant c.in_ok-part.ensures.judged c.then-told.ensures
+    (left_in g.B.Read.remaining c.judge_later.new.reader.script) c.parts.reader.silence c.judge_later.new.reader.silence c.parts.told c.in_ok-part.part c.in_ok-told.told c.parts.parts
+    (sym c.is_some.ensures ∙ c.parts-test.true) c.parts.invariant c.in_ok-part.ensures.judged c.in_ok-told.ensures
 
 pub parts-smaller : goal.parts-smaller
 parts-smaller g c =

@@ -11,8 +11,8 @@ use Rattle.script_recordings.proofs.explaining.watch_recording.Goals as goal
 pub returns-clause-judged : goal.returns-clause-judged
 returns-clause-judged g c P reached =
     judged_from P (description_in c.args.normal.now) (g.B.Read.remaining c.args.input) (left_in g.B.Read.remaining c.new-reader.result.script) (left_in g.B.Read.remaining c.judge_first.new.reader.script)
-    c.judge_first.new.reader.silence c.in_ok-first.first c.in_ok-others.others c.then-told.result c.in_ok-others.silences c.new-reader.ensures.reads
-    (λ P. description_in c.args.normal.now ≡ reach P) reached c.in_ok-first.ensures.judged c.in_ok-others.ensures.judged c.then-told.ensures
+    c.judge_first.new.reader.silence c.in_ok-first.first c.in_ok-others.others c.in_ok-told.told c.in_ok-others.silences c.new-reader.ensures.reads
+    (λ P. description_in c.args.normal.now ≡ reach P) reached c.in_ok-first.ensures.judged c.in_ok-others.ensures.judged c.in_ok-told.ensures
 
 pub returns-in_err-others-clause-refused : goal.returns-in_err-others-clause-refused
 returns-in_err-others-clause-refused g c =

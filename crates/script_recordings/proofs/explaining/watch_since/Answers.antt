@@ -12,15 +12,15 @@ use Rattle.script_recordings.proofs.explaining.watch_since.Goals as goal
 pub returns-clause-judged : goal.returns-clause-judged
 returns-clause-judged g c =
     judged_since (description_in c.args.normal.now) (g.B.Read.remaining c.args.input) (left_in g.B.Read.remaining c.new-reader.result.script) (left_in g.B.Read.remaining c.judge_later.new.reader.script)
-    c.judge_later.new.reader.silence c.in_ok-first.first c.in_ok-others.others c.then-told.result c.in_ok-others.silences c.new-reader.ensures.reads
-    c.in_ok-first.ensures.judged c.in_ok-others.ensures.judged c.then-told.ensures
+    c.judge_later.new.reader.silence c.in_ok-first.first c.in_ok-others.others c.in_ok-told.told c.in_ok-others.silences c.new-reader.ensures.reads
+    c.in_ok-first.ensures.judged c.in_ok-others.ensures.judged c.in_ok-told.ensures
 
 pub returns-clause-never : goal.returns-clause-never
 returns-clause-never g c P reached =
     let v = c.args.normal.now in
     let D : Description = description_in v in
     let alike : AnswersAlike D P = normal_alike v P c.in_ok-first.ensures.normal reached in
-    never_told D P alike (g.B.Read.remaining c.args.input) c.then-told.result.after c.then-told.result.first c.then-told.result.warning c.in_ok-others.silences (returns-clause-judged g c)
+    never_told D P alike (g.B.Read.remaining c.args.input) c.in_ok-told.told.after c.in_ok-told.told.first c.in_ok-told.told.warning c.in_ok-told.told.answers c.in_ok-others.silences (returns-clause-judged g c)
 
 pub returns-in_err-others-clause-refused : goal.returns-in_err-others-clause-refused
 returns-in_err-others-clause-refused g c =
