@@ -6,3 +6,4 @@ pub mod ReceivedLaw
 mod WholeLaw
 pub mod FlagLaw
 mod EndingLaw
+pub mod EngagedLaw

@@ -55,7 +55,7 @@ abbrev pub entry_event : Bus → Option Raw → Event
 entry_event b None = Noise b
 entry_event b (Some w) = Word b w
 
-abbrev word_starts : Description → List Noted → Bus → Option Raw → Bool
+abbrev pub word_starts : Description → List Noted → Bus → Option Raw → Bool
 word_starts P h b None = false
 word_starts P h b (Some w) = starts_message P w (heard_now P h b) (is_free (open_now P h b)) (is_fresh_broadcast (open_now P h b))
 
@@ -106,7 +106,7 @@ on_heard P h A = refl
 on_heard P h B = refl
 
 -- whether it starts a message, from what is kept
-starts_law : (P : Description) (h : List Noted) (b : Bus) (w : Option Raw) → word_starts P h b w ≡ starts_by P w (on_bus b (heard_on_buses P h)) (standing_of P (open_now P h b))
+pub starts_law : (P : Description) (h : List Noted) (b : Bus) (w : Option Raw) → word_starts P h b w ≡ starts_by P w (on_bus b (heard_on_buses P h)) (standing_of P (open_now P h b))
 starts_law P h b None = refl
 starts_law P h b (Some w) =
     ap (λ k. starts_message P w k (is_free (open_now P h b)) (is_fresh_broadcast (open_now P h b))) (sym (on_heard P h b))

@@ -5,6 +5,8 @@ use Rattle.bus_terminal.specs.declared.answer.Hand.{Hand}
 use Rattle.bus_terminal.specs.declared.answer.Hand.TheVariants.{Received, Synchronize, SynchronizeWith, SelfTest, BusControl}
 use Rattle.bus_terminal.specs.declared.answer.Answer.{Answer}
 use Rattle.bus_terminal.specs.declared.answer.Answer.TheVariants.{Silent, Sends, Hands}
+use Rattle.bus_terminal.specs.declared.copied_answer.CopiedAnswer.{CopiedAnswer}
+use Rattle.bus_terminal.specs.declared.copied_answer.CopiedAnswer.TheVariants as copied
 use Rattle.terminal_rules.specs.Out.{Sending, Handing, HandsReceived, HandsSynchronize, HandsSynchronizeWith, HandsSelfTest, HandsBusControl, Out, Silence, SendsWord, HandsOver}
 
 -- a word that is sent, in the words of the rules
@@ -24,6 +26,16 @@ abbrev pub shown_answer : Answer → Out
 shown_answer Silent = Silence
 shown_answer (Sends sent) = SendsWord (shown_word sent)
 shown_answer (Hands hand) = HandsOver (shown_handing hand)
+
+-- what a copy of an answer says
+abbrev pub shown_copy : CopiedAnswer → Out
+shown_copy copied.Silent = Silence
+shown_copy (copied.Sends sent) = SendsWord (shown_word sent)
+shown_copy (copied.Received broadcast subaddress words) = HandsOver (HandsReceived broadcast subaddress words.items)
+shown_copy copied.Synchronize = HandsOver HandsSynchronize
+shown_copy (copied.SynchronizeWith word) = HandsOver (HandsSynchronizeWith word)
+shown_copy copied.SelfTest = HandsOver HandsSelfTest
+shown_copy copied.BusControl = HandsOver HandsBusControl
 
 -- the data words that are handed over
 abbrev pub words_handed : Handing → List ℕ

@@ -7,12 +7,12 @@ use Rattle.bus_word.specs.declared.word.Bus.{Bus}
 use Rattle.bus_word.specs.declared.cell.Cell.{Cell}
 use Rattle.terminal_rules.specs.declared.event.Event.TheVariants.{Slot}
 use Rattle.terminal_rules.specs.LookBack.{keep}
-use Rattle.terminal_rules.specs.Out.{Out, Silence, SendsWord, HandsOver, Sending, out}
+use Rattle.terminal_rules.specs.Out.{Out, Silence, SendsWord, HandsOver, Sending, out, sent_in}
 use Rattle.terminal_bus.specs.declared.event.BusEvent.{BusEvent}
 use Rattle.terminal_bus.specs.declared.event.BusEvent.TheVariants.{SlotPasses}
 use Rattle.terminal_bus.specs.declared.seat.Seat.{Seat}
 use Rattle.terminal_rules.specs.declared.event.Event.{Event}
-use Rattle.terminal_bus.specs.Members.{Member, word_sent, if_on, sent_on, sendings, heard_of, heard_on, unless_sends, events_for, after_events, bus_after}
+use Rattle.terminal_bus.specs.Members.{Member, if_on, sent_on, sendings, heard_of, heard_on, unless_sends, events_for, after_events, bus_after}
 use Rattle.terminal_bus.specs.Alone.{answers_in}
 use Rattle.terminal_bus.specs.Transfer.{actions}
 use Rattle.terminal_bus.specs.AtMembers.{seat_at, AtBoth, SeatStands, SeatsStandAt, kept_at}
@@ -21,23 +21,23 @@ use Rattle.terminal_bus.proofs.Together.{over, keep_alike, slot_acts}
 
 first_word : List Out → Option Sending
 first_word [] = None
-first_word (o ∷ os) = word_sent o
+first_word (o ∷ os) = sent_in o
 
-first_law : (o : Out) → first_word (actions (o ∷ [])) ≡ word_sent o
+first_law : (o : Out) → first_word (actions (o ∷ [])) ≡ sent_in o
 unfolding first_word
 first_law Silence = refl
 first_law (SendsWord sending) = refl
 first_law (HandsOver handing) = refl
 
 -- what acts alike sends the same word
-same_word : (o p : Out) → actions (o ∷ []) ≡ actions (p ∷ []) → word_sent o ≡ word_sent p
+same_word : (o p : Out) → actions (o ∷ []) ≡ actions (p ∷ []) → sent_in o ≡ sent_in p
 same_word o p e = sym (first_law o) ∙ (ap first_word e ∙ first_law p)
 
 module _ {L : Type 0} (is_legal : L → Cell → Bool) (members : List Member) where
   abbrev Kept : List (Option (Seat L)) → Type 0
   Kept seats = (k : ℕ) (m : Member) → slice_get members k ≡ Some m → actions (kept_at (seat_at seats k) ∷ []) ≡ actions (answers_in members SlotPasses m)
 
-  sends_kept : (b : Bus) (o : Option (Seat L)) → sends_at b o ≡ if_on b (word_sent (kept_at o))
+  sends_kept : (b : Bus) (o : Option (Seat L)) → sends_at b o ≡ if_on b (sent_in (kept_at o))
   sends_kept b None = refl
   sends_kept b (Some seat) = refl
 

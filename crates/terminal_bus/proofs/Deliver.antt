@@ -9,10 +9,10 @@ use Rattle.terminal_rules.specs.declared.event.Event.{Event}
 use Rattle.terminal_rules.specs.declared.event.Event.TheVariants.{Word, Gap, Slot}
 use Rattle.terminal_rules.specs.Buses.{same_bus, other}
 use Rattle.terminal_rules.specs.LookBack.{keep}
-use Rattle.terminal_rules.specs.Out.{Out, Silence, SendsWord, Sending, out, outs_from}
+use Rattle.terminal_rules.specs.Out.{Out, Silence, SendsWord, Sending, out, outs_from, sent_in}
 use Rattle.terminal_bus.specs.declared.event.BusEvent.{BusEvent}
 use Rattle.terminal_bus.specs.declared.event.BusEvent.TheVariants.{OnBus, SlotPasses}
-use Rattle.terminal_bus.specs.Members.{Member, word_sent, if_on, sent_on, heard_of, sendings, unless_sends, heard_on, events_for, after_events, bus_after}
+use Rattle.terminal_bus.specs.Members.{Member, if_on, sent_on, heard_of, sendings, unless_sends, heard_on, events_for, after_events, bus_after}
 use Rattle.terminal_bus.specs.Lists.{EachTwo}
 use Rattle.terminal_bus.specs.Transfer.{Has, passing, actions, actions_at_each}
 use Rattle.terminal_bus.proofs.Pairs.{each_of}
@@ -59,8 +59,8 @@ pub record Plays (T : Scene) : Type 0 where
   pub roles : (m : Member) → Has T.members m → RoleAs T (sends_in T m) m
 
 sent_as : (T : Scene) (b : Bus) (t : Bool) (m : Member) (k : ℕ) → RoleAs T t m → k ≤ T.n → sent_on b (stage_with T t k m) ≡ (if t then if_on b (Some (word_at T k)) else None)
-sent_as T b true m k r low = ap (λ o. if_on b (word_sent o)) (r k low)
-sent_as T b false m k r low = ap (λ o. if_on b (word_sent o)) (r k)
+sent_as T b true m k r low = ap (λ o. if_on b (sent_in o)) (r k low)
+sent_as T b false m k r low = ap (λ o. if_on b (sent_in o)) (r k)
 
 bus_at : (T : Scene) (k : ℕ) → (word_at T k).bus ≡ T.bus
 bus_at T zero = refl

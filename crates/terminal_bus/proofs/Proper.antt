@@ -27,14 +27,14 @@ use Rattle.terminal_rules.specs.SinceReset.{is_reset, vector_word_set, vector_no
 use Rattle.terminal_rules.specs.Same.{IsProper, AreProper}
 use Rattle.terminal_rules.specs.Status.{kept_now}
 use Rattle.terminal_rules.specs.Past.{note, past, history_after}
-use Rattle.terminal_rules.specs.Out.{Sending, sending, code_word, reply_word, next_sent, sends, sending_out}
+use Rattle.terminal_rules.specs.Out.{Sending, sending, code_word, reply_word, next_sent, sends, sending_out, sent_in}
 use Rattle.terminal_rules.specs.Steps.{unless_reset}
 use Rattle.terminal_rules.proofs.OpenLaw.{after_gap, after_entry, after_event, unheard, waits, open_law}
 use Rattle.terminal_rules.proofs.BackLaw.{vector_step, bit_step, held_step, last_step}
 use Rattle.terminal_bus.specs.Lists.{Each}
 use Rattle.terminal_bus.specs.declared.event.BusEvent.{BusEvent}
 use Rattle.terminal_bus.specs.declared.event.BusEvent.TheVariants.{OnBus, SlotPasses, Subsystem}
-use Rattle.terminal_bus.specs.Members.{Member, word_sent, if_on, sent_on, heard_of, sendings, unless_sends, heard_on, events_for, after_events, bus_after, member_of, powered_up, all_events_for}
+use Rattle.terminal_bus.specs.Members.{Member, if_on, sent_on, heard_of, sendings, unless_sends, heard_on, events_for, after_events, bus_after, member_of, powered_up, all_events_for}
 use Rattle.terminal_bus.specs.Alone.{CanExist, CanHappen}
 
 -- 16 bits
@@ -292,7 +292,7 @@ abbrev SmallSent : Option Sending → Type 0
 SmallSent None = Unit {0}
 SmallSent (Some x) = Small x.bits
 
-small_sends : (P : Description) (h : List Noted) (b : Bus) (r : Option Replying) → P.address ≤ 30 → Words P h → SmallSent (if_on b (word_sent (sending_out (sends P h r))))
+small_sends : (P : Description) (h : List Noted) (b : Bus) (r : Option Replying) → P.address ≤ 30 → Words P h → SmallSent (if_on b (sent_in (sending_out (sends P h r))))
 small_sends P h b None low w = tt
 small_sends P h b (Some r) low w = elim (same_bus b (next_sent P h r).bus) as (λ t. SmallSent (if t then Some (next_sent P h r) else None)) [ true ↦ small_next P h r low w | false ↦ tt ]
 

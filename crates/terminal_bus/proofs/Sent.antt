@@ -15,8 +15,8 @@ use Rattle.terminal_rules.specs.History.{Noted, Replying}
 use Rattle.terminal_rules.specs.Reply.{reply_now}
 use Rattle.terminal_rules.specs.Status.{kept_now}
 use Rattle.terminal_rules.specs.Past.{past, history_after}
-use Rattle.terminal_rules.specs.Out.{Sending, sending, reply_word, next_sent, sends, sending_out}
-use Rattle.terminal_bus.specs.Members.{Member, word_sent, if_on, sent_on, heard_of, unless_sends}
+use Rattle.terminal_rules.specs.Out.{Sending, sending, reply_word, next_sent, sends, sending_out, sent_in}
+use Rattle.terminal_bus.specs.Members.{Member, if_on, sent_on, heard_of, unless_sends}
 use Rattle.terminal_bus.specs.Discipline.{replies}
 use Rattle.terminal_bus.proofs.Standing.{Standing, Clear, ByWord, Keeps, standing, word_moves, word_off, noise_keeps, slot_stays, replies_clear}
 use Rattle.terminal_bus.proofs.Fits.{BySent, sent_then, then_sent}
@@ -26,7 +26,7 @@ use Rattle.terminal_bus.proofs.Replies.{replies_at, word_replies, noise_replies,
 abbrev pub IsFrom : ℕ → Sending → Type 0
 IsFrom address x = is_command (valid_word x.kind x.bits) ≡ true → address_of x.bits ≡ address
 
-sent_by : (P : Description) (h : List Noted) (b : Bus) (x : Sending) (r : Option Replying) → if_on b (word_sent (sending_out (sends P h r))) ≡ Some x → (is_some r ≡ true) × IsFrom P.address x
+sent_by : (P : Description) (h : List Noted) (b : Bus) (x : Sending) (r : Option Replying) → if_on b (sent_in (sending_out (sends P h r))) ≡ Some x → (is_some r ≡ true) × IsFrom P.address x
 sent_by P h b x None e = cc
 sent_by P h b x (Some r) e = (refl, by_bus (same_bus b (next_sent P h r).bus) e)
   where

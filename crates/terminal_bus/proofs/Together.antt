@@ -10,7 +10,7 @@ use Rattle.bus_legal.specs.Description.{Description}
 use Rattle.terminal_rules.specs.declared.event.Event.{Event}
 use Rattle.terminal_rules.specs.declared.event.Event.TheVariants.{Slot}
 use Rattle.terminal_rules.specs.LookBack.{keep}
-use Rattle.terminal_rules.specs.Out.{Out, Silence, Sending, out, outs_from}
+use Rattle.terminal_rules.specs.Out.{Out, Silence, Sending, out, outs_from, sent_in}
 use Rattle.terminal_rules.specs.Past.{history_after}
 use Rattle.terminal_recordings.proofs.Leaving.{history_join}
 use Rattle.terminal_state.specs.declared.buses.OnBuses.{OnBuses}
@@ -18,10 +18,10 @@ use Rattle.bus_terminal.specs.Stands.{StandsAt}
 use Rattle.terminal_bus.specs.declared.event.BusEvent.{BusEvent}
 use Rattle.terminal_bus.specs.declared.event.BusEvent.TheVariants.{OnBus, SlotPasses, Subsystem}
 use Rattle.terminal_bus.specs.declared.seat.Seat.{Seat}
-use Rattle.terminal_bus.specs.Members.{Member, word_sent, if_on, sent_on, heard_of, sendings, unless_sends, heard_on, events_for, after_events, bus_after}
+use Rattle.terminal_bus.specs.Members.{Member, if_on, sent_on, heard_of, sendings, unless_sends, heard_on, events_for, after_events, bus_after}
 use Rattle.terminal_bus.specs.Alone.{answers_in}
 use Rattle.terminal_bus.specs.Transfer.{action_of, actions}
-use Rattle.terminal_bus.specs.Answers.{shown_kept}
+use Rattle.bus_terminal.specs.Answer.{shown_copy}
 use Rattle.terminal_bus.specs.AtMembers.{seat_at, AtBoth, SeatStands, SeatsStandAt, kept_at, collides, AtSeat, EachSeat}
 use Rattle.terminal_bus.specs.inner.Seats.{TakesAll, Stays, SeatSteps, StepsIfAddressed, sends_there, sends_at, Hears, are_many, SlotSteps}
 
@@ -44,13 +44,13 @@ module _ {L : Type 0} (is_legal : L → Cell → Bool) (members : List Member) w
   record Took (events : Member → List Event) (e : Event) (seat : Seat L) (m : Member) : Type 0 where
     address : seat.address ≡ m.description.address
     terminal : StandsAt is_legal m.description (history_after (events m) m.history) seat.terminal
-    answer : shown_kept seat.answer ≡ out m.description m.history e
+    answer : shown_copy seat.answer ≡ out m.description m.history e
 
   -- it took all that comes to it, and keeps what it sends or hands over
   pub record Done (x : BusEvent) (seat : Seat L) (m : Member) : Type 0 where
     pub address : seat.address ≡ m.description.address
     pub terminal : StandsAt is_legal m.description (history_after (events_for members x m) m.history) seat.terminal
-    pub answer : actions (shown_kept seat.answer ∷ []) ≡ actions (answers_in members x m)
+    pub answer : actions (shown_copy seat.answer ∷ []) ≡ actions (answers_in members x m)
 
   abbrev Each : (Seat L → Member → Type 0) → List (Option (Seat L)) → Type 0
   Each Q seats = (length seats ≡ length members) × ((k : ℕ) → AtBoth Q (seat_at seats k) (slice_get members k))
@@ -93,18 +93,18 @@ module _ {L : Type 0} (is_legal : L → Cell → Bool) (members : List Member) w
   -- an event of a subsystem
   own_done : (a : ℕ) (e : Event) (s t : Seat L) (m : Member) (i : Bool) → (m.description.address == a) ≡ i → SeatStands is_legal s m → StepsIfAddressed is_legal a e s t →
       StandsAt is_legal m.description (history_after (if i then e ∷ [] else []) m.history) t.terminal
-      × (actions (shown_kept t.answer ∷ []) ≡ actions (outs_from m.description m.history (if i then e ∷ [] else [])))
+      × (actions (shown_copy t.answer ∷ []) ≡ actions (outs_from m.description m.history (if i then e ∷ [] else [])))
   own_done a e s t m true i q r =
       let o : SeatSteps is_legal e s t = r.own (ap (λ b. b == a) q.address ∙ i) in
       (o.takes m.description m.history q.terminal, ap (λ (x : Out). actions (x ∷ [])) (o.answer m.description m.history q.terminal))
   own_done a e s t m false i q r =
-      let o : (shown_kept t.answer ≡ Silence) × TakesAll is_legal [] s.terminal t.terminal = r.other (ap (λ b. b == a) q.address ∙ i) in
+      let o : (shown_copy t.answer ≡ Silence) × TakesAll is_legal [] s.terminal t.terminal = r.other (ap (λ b. b == a) q.address ∙ i) in
       (o.1 m.description m.history q.terminal, ap (λ (x : Out). actions (x ∷ [])) o.0)
 
   subsystem_done : (a : ℕ) (e : Event) (s t : Seat L) (m : Member) → SeatStands is_legal s m → StepsIfAddressed is_legal a e s t → Done (Subsystem a e) t m
   subsystem_done a e s t m q r =
       let it : StandsAt is_legal m.description (history_after (if m.description.address == a then e ∷ [] else []) m.history) t.terminal
-      × (actions (shown_kept t.answer ∷ []) ≡ actions (outs_from m.description m.history (if m.description.address == a then e ∷ [] else [])))
+      × (actions (shown_copy t.answer ∷ []) ≡ actions (outs_from m.description m.history (if m.description.address == a then e ∷ [] else [])))
       = own_done a e s t m (m.description.address == a) refl q r in
       record { address = r.address ∙ q.address; terminal = it.0; answer = it.1 }
 
@@ -113,7 +113,7 @@ module _ {L : Type 0} (is_legal : L → Cell → Bool) (members : List Member) w
 
   -- the words that are sent in a slot
   sent_law : (events : Member → List Event) (b : Bus) (s : Seat L) (m : Member) → Took events Slot s m → sends_there b s ≡ sent_on b m
-  sent_law events b s m q = ap (λ (o : Out). if_on b (word_sent o)) q.answer
+  sent_law events b s m q = ap (λ (o : Out). if_on b (sent_in o)) q.answer
 
   sent_law_at : (events : Member → List Event) (b : Bus) (o : Option (Seat L)) (m : Option Member) → AtBoth (Took events Slot) o m → sends_at b o ≡ over (sent_on b) m
   sent_law_at events b None None q = refl
@@ -221,7 +221,7 @@ module _ {L : Type 0} (is_legal : L → Cell → Bool) (members : List Member) w
   answers_at : (x : BusEvent) (o : Option (Seat L)) (n : Option Member) (m : Member) → n ≡ Some m → AtBoth (Done x) o n → actions (kept_at o ∷ []) ≡ actions (answers_in members x m)
   answers_at x o None m e q = cc
   answers_at x None (Some n) m e q = absurd q
-  answers_at x (Some s) (Some n) m e q = subst (λ (it : Option Member). elim it as (λ it. Type 0) [ None ↦ Unit {0} | Some p ↦ actions (shown_kept s.answer ∷ []) ≡ actions (answers_in members x p) ]) e q.answer
+  answers_at x (Some s) (Some n) m e q = subst (λ (it : Option Member). elim it as (λ it. Type 0) [ None ↦ Unit {0} | Some p ↦ actions (shown_copy s.answer ∷ []) ≡ actions (answers_in members x p) ]) e q.answer
 
   pub done_answers : (x : BusEvent) (news : List (Option (Seat L))) → AllDone x news → (k : ℕ) (m : Member) → slice_get members k ≡ Some m →
       actions (kept_at (seat_at news k) ∷ []) ≡ actions (answers_in members x m)

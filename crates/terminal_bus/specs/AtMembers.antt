@@ -22,7 +22,7 @@ use Rattle.terminal_bus.specs.Members.{Member, sendings}
 use Rattle.terminal_bus.specs.Discipline.{has_address}
 use Rattle.terminal_bus.specs.Alone.{answers_in}
 use Rattle.terminal_bus.specs.Transfer.{actions}
-use Rattle.terminal_bus.specs.Answers.{shown_kept}
+use Rattle.bus_terminal.specs.Answer.{shown_copy}
 
 -- the terminal at a place, which is its number, from 0
 abbrev pub seat_at : {L : Type 0} → List (Option (Seat L)) → ℕ → Option (Seat L)
@@ -89,7 +89,7 @@ IsTerminalAt is_legal (Some seat) (Some t) = IsTerminalOf is_legal seat t
 -- the answer that a place keeps
 abbrev pub kept_at : {L : Type 0} → Option (Seat L) → Out
 kept_at None = Silence
-kept_at (Some seat) = shown_kept seat.answer
+kept_at (Some seat) = shown_copy seat.answer
 
 -- Each place keeps what its terminal sends or hands over, while this happens at members. It is one answer, since of an
 -- event and the words that follow it only the event is answered.

@@ -6,7 +6,6 @@ pub mod Discipline
 pub mod OneSpeaker
 pub mod Transfer
 pub mod BusRows
-pub mod Answers
 pub mod Came
 pub mod AtMembers
 pub mod Breaches

@@ -9,7 +9,7 @@ use Rattle.terminal_rules.specs.declared.event.Event.TheVariants.{Word, Noise, S
 use Rattle.terminal_rules.specs.Buses.{same_bus}
 use Rattle.terminal_rules.specs.LookBack.{keep}
 use Rattle.terminal_rules.specs.Past.{history_after}
-use Rattle.terminal_rules.specs.Out.{Out, SendsWord, Sending, out}
+use Rattle.terminal_rules.specs.Out.{Sending, out, sent_in}
 use Rattle.terminal_bus.specs.declared.event.BusEvent.{BusEvent}
 use Rattle.terminal_bus.specs.declared.event.BusEvent.TheVariants.{OnBus, SlotPasses, Subsystem}
 
@@ -18,18 +18,13 @@ pub record Member : Type 0 where
   pub description : Description
   pub history : List Event
 
--- the word that is sent, if one is
-abbrev pub word_sent : Out → Option Sending
-word_sent (SendsWord sending) = Some sending
-word_sent _ = None
-
 abbrev pub if_on : Bus → Option Sending → Option Sending
 if_on b None = None
 if_on b (Some s) = if same_bus b s.bus then Some s else None
 
 -- the word that a terminal sends on a bus in a slot that comes now
 abbrev pub sent_on : Bus → Member → Option Sending
-sent_on b m = if_on b (word_sent (out m.description m.history Slot))
+sent_on b m = if_on b (sent_in (out m.description m.history Slot))
 
 -- What comes on a bus of the words that are sent there in one slot, to terminals that don't send there: nothing, the word
 -- with the right parity (MIL-STD-1553B, 4.3.3.5.1.6), or noise, if two or more collide.

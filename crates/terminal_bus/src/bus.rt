@@ -1,14 +1,13 @@
 //! A bus of terminals that are stepped together.
 use crate::answers::{AddressedAnswer, answer_of};
 use crate::came::CameTo;
-use crate::copied_answer::CopiedAnswer;
 use crate::discipline::{Breach, breach_of};
 use crate::event::BusEvent;
 use crate::exchange::{addressed_steps, each_steps, exchange, heard_unless, sent_by};
 use crate::seat::{Seat, has_address, is_addressed, place_copy, terminal_copy};
 use arrayvec::ArrayVec;
 use bus_legal::{Legality, Setup};
-use bus_terminal::Terminal;
+use bus_terminal::{CopiedAnswer, Terminal};
 use bus_word::Bus;
 use terminal_rules::Event;
 use terminal_state::OnBuses;

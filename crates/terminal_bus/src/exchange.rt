@@ -9,10 +9,9 @@ ghost use Rattle.terminal_bus.specs.Members.{heard_of, unless_sends};
 ghost use Rattle.terminal_bus.specs.AtMembers.{seat_at, EachSeat, AtSeat};
 ghost use Rattle.terminal_bus.specs.inner.Seats.{SeatSteps, SeatTakes, StepsIfAddressed, Hears, sends_at, are_many};
 
-use crate::copied_answer::CopiedAnswer;
 use crate::seat::Seat;
 use bus_legal::Legality;
-use bus_terminal::Sent;
+use bus_terminal::{CopiedAnswer, Sent};
 use bus_word::{Bus, Raw};
 use terminal_rules::Event;
 

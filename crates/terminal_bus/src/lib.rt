@@ -4,7 +4,6 @@
 mod answers;
 mod bus;
 mod came;
-mod copied_answer;
 mod discipline;
 mod event;
 mod exchange;

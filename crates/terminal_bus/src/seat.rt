@@ -4,9 +4,8 @@ ghost use Rattle.terminal_rules.specs.LookBack.{some};
 ghost use Rattle.terminal_bus.specs.AtMembers.{AtSeat, IsTerminalAt};
 ghost use Rattle.terminal_bus.specs.inner.Seats.{is_addressed, Stays};
 
-use crate::copied_answer::{CopiedAnswer, kept};
 use bus_legal::{Legality, Setup};
-use bus_terminal::{Answer, Sent, Terminal};
+use bus_terminal::{Answer, CopiedAnswer, Sent, Terminal};
 use bus_word::{Bus, Kind, Raw};
 use terminal_rules::Event;
 use terminal_state::{Phase, same_bus};
@@ -22,10 +21,9 @@ pub(crate) struct Seat<L> {
 impl<L: Legality> Seat<L> {
     ghost use Rattle.std.specs.Prelude.{◌≡◌, [], ◌∷◌};
     ghost use Rattle.std.specs.Option.{option_map};
-    ghost use Rattle.bus_terminal.specs.Answer.{shown_word};
     ghost use Rattle.bus_legal.specs.Description.{described};
     ghost use Rattle.terminal_rules.specs.Out.{Silence};
-    ghost use Rattle.terminal_bus.specs.Answers.{shown_kept};
+    ghost use Rattle.bus_terminal.specs.Answer.{shown_word, shown_copy};
     ghost use Rattle.terminal_bus.specs.Members.{member_of};
     ghost use Rattle.terminal_bus.specs.AtMembers.{SeatStands};
     ghost use Rattle.terminal_state.specs.Message.{standing_on};
@@ -68,7 +66,7 @@ impl<L: Legality> Seat<L> {
         }
         match self.terminal.step(event) {
             Answer::Silent => self.answer = CopiedAnswer::Silent,
-            answer => self.answer = kept(answer),
+            answer => self.answer = CopiedAnswer::of(answer),
         }
     }
 

@@ -6,7 +6,7 @@ use terminal_rules::{Event, Flag};
 use terminal_state::{Ended, Phase, same_bus};
 
 impl<L: Legality> Terminal<L> {
-    ghost use Rattle.std.specs.Prelude.{◌≡◌, ℕ, List};
+    ghost use Rattle.std.specs.Prelude.{◌≡◌, ◌&&◌, ◌||◌, not, ℕ, List, Some};
     ghost use Rattle.bus_legal.specs.Description.{Description};
     ghost use Rattle.terminal_rules.specs.declared.event.Event.{Event};
     ghost use Rattle.terminal_rules.specs.Flags.{flag_now};
@@ -17,8 +17,11 @@ impl<L: Legality> Terminal<L> {
     ghost use Rattle.terminal_rules.specs.Past.{past};
     ghost use Rattle.terminal_state.specs.Ended.{ending_of};
     ghost use Rattle.terminal_state.specs.Message.{standing_on};
-    ghost use Rattle.bus_terminal.specs.Stands.{StandsAt};
-    ghost use Rattle.bus_terminal.specs.Waiting.{awaited, awaited_in};
+    ghost use Rattle.terminal_rules.specs.Starts.{starts_now};
+    ghost use Rattle.terminal_state.specs.Standing.{starts_by};
+    ghost use Rattle.terminal_state.specs.Buses.{on_bus};
+    ghost use Rattle.bus_terminal.specs.Stands.{StandsAt, own_description};
+    ghost use Rattle.bus_terminal.specs.Waiting.{awaited, awaited_in, is_open, is_engaged};
     ghost use Rattle.bus_terminal.specs.inner.Terminal.{ends_at_gap, ends_at_entry};
 
     /// Gives the address of the terminal for whose status word the message on this bus waits: that of a transfer between two
@@ -87,6 +90,44 @@ impl<L: Legality> Terminal<L> {
         match self.in_progress.failed_by(bus, word) {
             Some(command) => Ended::Badly(command),
             None => Ended::Nothing,
+        }
+    }
+
+    /// Tells whether this event, which is yet to come, starts a message.
+    pub fn will_start(&self, event: Event) -> bool
+        ensures { (P : Description) (h : List Event) → StandsAt L.is_legal P h self.now → result ≡ starts_now P (past P h) event }
+    {
+        match event {
+            Event::Word(bus, word) => self.will_start_by(bus, word),
+            _ => false,
+        }
+    }
+
+    /// Tells the same of a word on this bus.
+    fn will_start_by(&self, bus: Bus, word: Raw) -> bool
+        ensures { result ≡ (not (is_on bus (reply_bus (shown_reply self.now.reply))) && starts_by (own_description L.is_legal self.now) (Some word) (on_bus bus self.now.heard) (standing_on bus self.now.in_progress)) }
+    {
+        if self.replies_on(bus) {
+            return false;
+        }
+        let ours = word.is_for(self.settings.address, self.settings.broadcast);
+        self.starts(bus, word, ours)
+    }
+
+    /// Tells whether the terminal is in a message on this bus, or replies there.
+    pub fn is_engaged(&self, bus: Bus) -> bool
+        ensures { (P : Description) (h : List Event) → StandsAt L.is_legal P h self.now → result ≡ is_engaged P (past P h) bus }
+    {
+        self.is_open_on(bus) || self.replies_on(bus)
+    }
+
+    /// Tells whether a message is in progress on this bus.
+    fn is_open_on(&self, bus: Bus) -> bool
+        ensures { result ≡ is_open (standing_on bus self.now.in_progress) }
+    {
+        match &self.in_progress.message {
+            Some(message) => same_bus(bus, message.bus),
+            None => false,
         }
     }
 }

@@ -7,14 +7,14 @@ use Rattle.bus_legal.specs.Description.{Description}
 use Rattle.terminal_rules.specs.declared.event.Event.{Event}
 use Rattle.terminal_rules.specs.declared.event.Event.TheVariants.{Slot}
 use Rattle.terminal_rules.specs.LookBack.{keep}
-use Rattle.terminal_rules.specs.Out.{Silence, Sending}
+use Rattle.terminal_rules.specs.Out.{Silence, Sending, sent_in}
 use Rattle.terminal_rules.specs.Past.{history_after}
 use Rattle.terminal_state.specs.declared.buses.OnBuses.{OnBuses}
 use Rattle.bus_terminal.specs.Stands.{StandsAt, AnswersEvent}
 use Rattle.bus_terminal.specs.declared.terminal.Terminal.{Terminal}
 use Rattle.terminal_bus.specs.declared.seat.Seat.{Seat}
-use Rattle.terminal_bus.specs.Members.{word_sent, if_on, unless_sends, heard_of}
-use Rattle.terminal_bus.specs.Answers.{shown_kept}
+use Rattle.terminal_bus.specs.Members.{if_on, unless_sends, heard_of}
+use Rattle.bus_terminal.specs.Answer.{shown_copy}
 use Rattle.terminal_bus.specs.AtMembers.{seat_at, IsSameTerminal, AtSeat, EachSeat}
 
 -- a terminal that took these events, wherever it stood
@@ -30,14 +30,14 @@ pub record Stays {L : Type 0} (is_legal : L → Cell → Bool) (old new : Seat L
 -- it took these events, and its answer is as it was
 pub record SeatTakes {L : Type 0} (is_legal : L → Cell → Bool) (es : List Event) (old new : Seat L) : Type 0 where
   pub address : new.address ≡ old.address
-  pub answer : shown_kept new.answer ≡ shown_kept old.answer
+  pub answer : shown_copy new.answer ≡ shown_copy old.answer
   pub takes : TakesAll is_legal es old.terminal new.terminal
   pub same : IsSameTerminal is_legal old new
 
 -- it took an event, and keeps its answer
 pub record SeatSteps {L : Type 0} (is_legal : L → Cell → Bool) (e : Event) (old new : Seat L) : Type 0 where
   pub address : new.address ≡ old.address
-  pub answer : AnswersEvent is_legal e old.terminal (shown_kept new.answer)
+  pub answer : AnswersEvent is_legal e old.terminal (shown_copy new.answer)
   pub takes : TakesAll is_legal (e ∷ []) old.terminal new.terminal
   pub same : IsSameTerminal is_legal old new
 
@@ -45,12 +45,12 @@ pub record SeatSteps {L : Type 0} (is_legal : L → Cell → Bool) (e : Event) (
 pub record StepsIfAddressed {L : Type 0} (is_legal : L → Cell → Bool) (a : ℕ) (e : Event) (old new : Seat L) : Type 0 where
   pub address : new.address ≡ old.address
   pub own : (old.address == a) ≡ true → SeatSteps is_legal e old new
-  pub other : (old.address == a) ≡ false → (shown_kept new.answer ≡ Silence) × TakesAll is_legal [] old.terminal new.terminal
+  pub other : (old.address == a) ≡ false → (shown_copy new.answer ≡ Silence) × TakesAll is_legal [] old.terminal new.terminal
   pub same : IsSameTerminal is_legal old new
 
 -- the word that a terminal sends on a bus, by its answer
 abbrev pub sends_there : {L : Type 0} → Bus → Seat L → Option Sending
-sends_there b seat = if_on b (word_sent (shown_kept seat.answer))
+sends_there b seat = if_on b (sent_in (shown_copy seat.answer))
 
 abbrev pub sends_at : {L : Type 0} → Bus → Option (Seat L) → Option Sending
 sends_at b None = None

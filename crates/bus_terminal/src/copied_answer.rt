@@ -2,21 +2,17 @@
 ghost use Rattle.std.specs.Prelude.{◌≡◌, ◌≤◌, length};
 ghost use Rattle.std.specs.Option.{option_map};
 ghost use Rattle.bus_terminal.specs.declared.answer.Answer.TheVariants.{Hands};
-ghost use Rattle.bus_terminal.specs.Answer.{shown_word, shown_answer, IsSmall};
-ghost use Rattle.terminal_bus.specs.Members.{word_sent};
-ghost use Rattle.terminal_bus.specs.Answers.{shown_kept};
+ghost use Rattle.terminal_rules.specs.Out.{sent_in};
+ghost use Rattle.bus_terminal.specs.Answer.{shown_word, shown_answer, shown_copy, IsSmall};
 
+use crate::answer::{Answer, Hand, Sent};
 use arrayvec::ArrayVec;
-use bus_terminal::{Answer, Hand, Sent};
 
-/// An answer with words of its own.
+/// An answer with words of its own: the same cases as those of `Answer` and `Hand`.
 #[derive(Drop)]
-pub(crate) enum CopiedAnswer {
-    /// Nothing.
+pub enum CopiedAnswer {
     Silent,
-    /// A word is sent.
     Sends(Sent),
-    /// Words that were received are handed over.
     Received {
         broadcast: bool,
         subaddress: u8,
@@ -42,9 +38,9 @@ fn copied(words: &[u16]) -> ArrayVec<u16, 32>
 }
 
 /// Copies what is handed over.
-fn kept_hand(hand: Hand<'_>) -> CopiedAnswer
+fn copied_hand(hand: Hand<'_>) -> CopiedAnswer
     requires { IsSmall (shown_answer (Hands hand)) }
-    ensures { shown_kept result ≡ shown_answer (Hands hand.entry) }
+    ensures { shown_copy result ≡ shown_answer (Hands hand.entry) }
 {
     match hand {
         Hand::Received {
@@ -63,22 +59,22 @@ fn kept_hand(hand: Hand<'_>) -> CopiedAnswer
     }
 }
 
-/// Copies an answer.
-pub(crate) fn kept(answer: Answer<'_>) -> CopiedAnswer
-    requires { IsSmall (shown_answer answer) }
-    ensures { shown_kept result ≡ shown_answer answer.entry }
-{
-    match answer {
-        Answer::Silent => CopiedAnswer::Silent,
-        Answer::Sends(sent) => CopiedAnswer::Sends(sent),
-        Answer::Hands(hand) => kept_hand(hand),
-    }
-}
-
 impl CopiedAnswer {
+    /// Copies an answer.
+    pub fn of(answer: Answer<'_>) -> CopiedAnswer
+        requires { IsSmall (shown_answer answer) }
+        ensures { shown_copy result ≡ shown_answer answer.entry }
+    {
+        match answer {
+            Answer::Silent => CopiedAnswer::Silent,
+            Answer::Sends(sent) => CopiedAnswer::Sends(sent),
+            Answer::Hands(hand) => copied_hand(hand),
+        }
+    }
+
     /// Lends the answer.
-    pub(crate) fn lent(&self) -> Answer<'_>
-        ensures answer { shown_answer result ≡ shown_kept self.now }
+    pub fn lent(&self) -> Answer<'_>
+        ensures answer { shown_answer result ≡ shown_copy self.now }
         ensures small { IsSmall (shown_answer result) }
     {
         match self {
@@ -101,8 +97,8 @@ impl CopiedAnswer {
     }
 
     /// The word that is sent, if one is.
-    pub(crate) fn sent(&self) -> Option<Sent>
-        ensures { option_map shown_word result ≡ word_sent (shown_kept self.now) }
+    pub fn sent(&self) -> Option<Sent>
+        ensures { option_map shown_word result ≡ sent_in (shown_copy self.now) }
     {
         match self {
             CopiedAnswer::Sends(sent) => Some(*sent),
