@@ -11,10 +11,10 @@ from typing import NamedTuple
 
 import buses
 import exchanges
-import message_rows
 import play
 import pytest
 import rules
+import run_messages
 from programs import Given, run, write_files
 
 SEEDS, BUSES = 20, 250
@@ -210,7 +210,7 @@ def rows_of(setups, numbered, counts):
     rows = {}
     for it in setups:
         came = events[it.address]
-        told = message_rows.rows_of(it, [(place, event) for place, (_, event) in enumerate(came)])
+        told = run_messages.rows_of(it, [(place, event) for place, (_, event) in enumerate(came)])
         rows[it.address] = [(row, commands_of(row, came)) for row in told]
         counts["commands of two lines in a message"] += sum(len({number for number, _ in commands}) > 1 for _, commands in rows[it.address])
     return rows, warnings

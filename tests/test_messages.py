@@ -3,13 +3,15 @@
 import csv
 import io
 import json
+import random
 import subprocess
 import tomllib
 
-import message_rows
 import play
 import pytest
 import random_scripts
+import rules
+import run_messages
 from programs import Row, check_row, run, with_files, write_files
 from schemas import misfits_of_lines
 
@@ -163,6 +165,33 @@ def played(number, count=40):
     return profile, setup, "".join(f"{it}\n" for it in lines), events
 
 
+def wild(number, count=60):
+    """The same of so many events, each at random: on both buses words, of few commands, that begin, continue and supersede messages."""
+    profile, draw = random_scripts.profile_of(number % 16), random.Random(number)
+    setup, lines, events = play.setup_of(tomllib.loads(profile)), [], []
+    for _ in range(count):
+        bus, turn = draw.choice("AAB"), draw.random()
+        if turn < 0.4:
+            address = draw.choice([setup.address, setup.address, 6, 7, 31])
+            place, low = draw.choice([(0, draw.choice([2, 4, 5, 8, 17, 18, 20])), (29, 1), (29, 2), (30, 1)])
+            word = rules.valid_word("c", address << 11 | draw.randrange(2) << 10 | place << 5 | low)
+        elif turn < 0.45:
+            word = rules.valid_word("c", draw.choice([6, 7]) << 11 | draw.choice([0, 0, 0x400, 0x20]))
+        else:
+            word = rules.valid_word("d", draw.randrange(1 << 16))
+        if turn < 0.6:
+            event = ("word", bus, word if draw.random() < 0.97 else (*word[:2], 1 - word[2]))
+        elif turn < 0.78:
+            event = ("gap", bus)
+        elif turn < 0.97:
+            event = ("slot",)
+        else:
+            event = draw.choice([("noise", bus), ("flag", "busy", draw.randrange(2))])
+        lines.append(random_scripts.line_of(event))
+        events.append((len(lines), event))
+    return profile, setup, "".join(f"{it}\n" for it in lines), events
+
+
 def without_names(row):
     """A row of JSON without what mode codes are called."""
     for it in (row["command"], row["transmitter"]):
@@ -174,12 +203,12 @@ def without_names(row):
 def test_messages_of_the_model(tool, tmp_path):
     """The rows are those of the model, and fit their schema."""
     ends = set()
-    for number in range(RUNS):
-        profile, setup, script, events = played(number)
+    for number in range(2 * RUNS):
+        profile, setup, script, events = (played, wild)[number % 2](number)
         write_files(tmp_path, {"profile": profile, "script": script})
         given = run(tool, "messages", "--format", "json", "profile", "script", folder=tmp_path)
         assert (given.status, given.errors) == (0, b"")
-        rows = message_rows.rows_of(setup, events)
+        rows = run_messages.rows_of(setup, events)
         assert [without_names(json.loads(it)) for it in given.output.splitlines()] == rows, number
         ends |= {(it["ended"], it["why"]) for it in rows}
         if number < 20:
@@ -188,6 +217,17 @@ def test_messages_of_the_model(tool, tmp_path):
     assert {it for _, it in ends} >= {"wrong word count", "invalid word or noise", "command within", "gap within",
                                       "no status from the transmitter", "transmitter shut down", "during a reply",
                                       "no gap after a command", "reply dropped by a command on the other bus"}  # fmt: skip
+
+
+def test_messages_share_what_is_sent(rt1553, tool, tmp_path):
+    """The status words, and what is handed over, of the messages of a run are those of its transcript, in its order."""
+    for number in range(RUNS):
+        profile, _, script, _ = (played, wild)[number % 2](number)
+        write_files(tmp_path, {"profile": profile, "script": script})
+        answers = run(rt1553, "run", "profile", "script", folder=tmp_path).output.decode().splitlines()
+        rows = [json.loads(it) for it in run(tool, "messages", "--format", "json", "profile", "script", folder=tmp_path).output.splitlines()]
+        assert [it["status"] for it in rows if it["status"]] == [it.split()[2] for it in answers if it[2:4] == "s "], number
+        assert [f"hand {it['handed']}" for it in rows if it["handed"]] == [it for it in answers if it.startswith("hand ")], number
 
 
 def test_messages_as_a_table(tool, tmp_path):

@@ -1,13 +1,14 @@
 -- The commands of a message.
-use Rattle.std.specs.Prelude.{ℕ, Bool, false, not, ◌&&◌, ◌||◌, ◌==◌, if◌then◌else◌, Option, Some, None}
-use Rattle.bus_word.specs.Command.{address_of, transmits, subaddress_of, is_mode, is_broadcast, is_receive, is_addressed_to}
+use Rattle.std.specs.Prelude.{ℕ, Bool, false, ◌||◌, ◌==◌, if◌then◌else◌, Option, Some, None}
+use Rattle.bus_word.specs.Command.{address_of, transmits, subaddress_of, is_mode, is_broadcast, is_addressed_to}
+use Rattle.terminal_messages.specs.declared.kept.KeptMessage.{KeptMessage}
 use Rattle.message_rows.specs.declared.commands.MessageCommands.{MessageCommands}
 use Rattle.message_rows.specs.declared.commands.MessageForm.{MessageForm}
 use Rattle.message_rows.specs.declared.commands.MessageForm.TheVariants.{Receive, Transmit, Mode, Transfer}
 
--- a command behind a receive command of data, by which one terminal other than the receiver transmits
-abbrev pub is_transmitter_for : ℕ → ℕ → Bool
-is_transmitter_for first next = (is_receive first && transmits next) && (not (is_broadcast next) && not (address_of next == address_of first))
+-- the commands of a message
+abbrev pub row_commands : KeptMessage → MessageCommands
+row_commands m = record { command = m.state.command; transmitter = m.state.second }
 
 -- a message of one command
 abbrev pub form_of_one : ℕ → MessageForm

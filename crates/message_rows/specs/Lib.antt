@@ -1,4 +1,3 @@
 pub mod Commands
-pub mod Ends
 pub mod Filter
 pub mod inner

@@ -1,4 +1,3 @@
 -- What the contracts of private functions speak of.
 pub mod StatusBits
 pub mod Table
-pub mod Kept

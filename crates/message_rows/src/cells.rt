@@ -1,8 +1,9 @@
 //! Rows as the cells of a list for people.
+use crate::commands::MessageCommands;
 use crate::field::{Field, texts_of};
-use crate::row::RunRow;
 use crate::text::{bus_name, count_of, form_name};
 use std::alloc::{AllocError, Global};
+use terminal_messages::KeptMessage;
 
 /// What the cells of a row are, in their order.
 pub const CELL_NAMES: [&str; 11] = [
@@ -19,30 +20,30 @@ pub const CELL_NAMES: [&str; 11] = [
     "handed over",
 ];
 
-/// The fields of a row, with the name of its message.
-fn fields_of<'a>(row: &'a RunRow, name: Option<&'a str>) -> [Field<'a>; 11] {
-    let command = row.commands.command;
+/// The fields of a message, with its name.
+fn fields_of<'a>(message: &'a KeptMessage, name: Option<&'a str>) -> [Field<'a>; 11] {
+    let commands = MessageCommands::of(message);
+    let command = commands.command;
     [
-        Field::Text(Some(bus_name(row.bus))),
-        Field::Text(Some(form_name(row.commands.form()))),
+        Field::Text(Some(bus_name(message.state.bus))),
+        Field::Text(Some(form_name(commands.form()))),
         Field::Address(command.address()),
         Field::Place(command),
         Field::Small(count_of(command)),
-        Field::Transmitter(row.commands.transmitter),
+        Field::Transmitter(commands.transmitter),
         Field::Text(name),
-        Field::End(row),
-        Field::Words(row),
-        Field::Status(row.status),
-        Field::Text(row.handed_text()),
+        Field::End(message),
+        Field::Words(message),
+        Field::Status(message.state.status),
+        Field::Handed(&message.handed),
     ]
 }
 
-/// The cells of a row, as `CELL_NAMES` says, without the numbers of the message and of its line; with the name of the message, where it
-/// has one.
+/// The cells of a message, as `CELL_NAMES` says, without its number and that of its line; with its name, where it has one.
 pub fn row_cells(
     alloc: Global,
-    row: &RunRow,
+    message: &KeptMessage,
     name: Option<&str>,
 ) -> Result<Vec<String>, AllocError> {
-    texts_of(alloc, &fields_of(row, name))
+    texts_of(alloc, &fields_of(message, name))
 }

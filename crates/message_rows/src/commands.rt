@@ -1,8 +1,9 @@
 //! The commands of a message, and what they ask for.
 ghost use Rattle.std.specs.Prelude.{◌≡◌};
-ghost use Rattle.message_rows.specs.Commands.{is_transmitter_for, form_of, named_command, goes_to, is_at};
+ghost use Rattle.message_rows.specs.Commands.{row_commands, form_of, named_command, goes_to, is_at};
 
 use bus_word::Command;
+use terminal_messages::KeptMessage;
 
 /// What a message is.
 #[derive(Clone, Copy, PartialEq, Eq, Debug)]
@@ -26,17 +27,17 @@ pub struct MessageCommands {
     pub transmitter: Option<Command>,
 }
 
-/// Whether a command that follows another one at once makes a transfer of the message.
-pub fn is_transmitter_for(first: Command, next: Command) -> bool
-    ensures { result ≡ is_transmitter_for first next }
-{
-    first.is_receive()
-        && next.transmit()
-        && !next.is_broadcast()
-        && next.address() != first.address()
-}
-
 impl MessageCommands {
+    /// Those of a message.
+    pub fn of(message: &KeptMessage) -> MessageCommands
+        ensures { result ≡ row_commands message.now }
+    {
+        MessageCommands {
+            command: message.state.command,
+            transmitter: message.state.second,
+        }
+    }
+
     /// What the message is.
     pub fn form(&self) -> MessageForm
         ensures { result ≡ form_of self.now }

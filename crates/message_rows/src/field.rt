@@ -1,10 +1,12 @@
 //! What is told of a message, field by field.
-use crate::row::RunRow;
 use crate::status::{STATUS_BITS, is_bit_set};
 use crate::text::{end_name, place_of, why};
+use bus_terminal::CopiedAnswer;
 use bus_word::Command;
+use script_lines::write_answer;
 use std::alloc::{AllocError, Global};
 use std::fmt;
+use terminal_messages::KeptMessage;
 
 /// A field of a row. Where there is no text, number, word or command, nothing is told.
 #[derive(Clone, Copy)]
@@ -20,9 +22,11 @@ pub enum Field<'a> {
     /// The address of the transmitter of a transfer, and its subaddress or mode code.
     Transmitter(Option<Command>),
     /// How the message ended, and why.
-    End(&'a RunRow),
+    End(&'a KeptMessage),
     /// The data words with a space between two, and how many are left out.
-    Words(&'a RunRow),
+    Words(&'a KeptMessage),
+    /// What was handed over, as in a transcript without `hand ` and the line feed; silence is nothing.
+    Handed(&'a CopiedAnswer),
     /// The four digits of a word.
     Digits(Option<u16>),
     /// The bits of a status word that are set, with a space between two.
@@ -36,16 +40,23 @@ fn write_place<W: fmt::Write>(f: &mut fmt::Formatter<W>, command: Command) -> fm
     write!(f, "{mode}{}", place_of(command))
 }
 
-fn write_words<W: fmt::Write>(f: &mut fmt::Formatter<W>, row: &RunRow) -> fmt::Result {
+fn write_words<W: fmt::Write>(f: &mut fmt::Formatter<W>, message: &KeptMessage) -> fmt::Result {
     let mut space = "";
-    for word in row.data.as_slice() {
+    for word in message.words.as_slice() {
         write!(f, "{space}{word:04x}")?;
         space = " ";
     }
-    if row.left_out > 0 {
-        write!(f, " and {} more", row.left_out)?;
+    if message.left_out > 0 {
+        write!(f, " and {} more", message.left_out)?;
     }
     Ok(())
+}
+
+fn write_handed<W: fmt::Write>(f: &mut fmt::Formatter<W>, handed: &CopiedAnswer) -> fmt::Result {
+    let line = write_answer(&handed.lent());
+    let text = line.as_str();
+    let text = text.strip_prefix("hand ").unwrap_or(text);
+    f.write_str(text.strip_suffix("\n").unwrap_or(text))
 }
 
 /// Writes the bits that are set, with a space between two; behind a word also before the first.
@@ -74,11 +85,12 @@ impl fmt::Display for Field<'_> {
                 write!(f, "{} ", command.address())?;
                 write_place(f, command)
             }
-            Field::End(row) => match why(row) {
-                Some(why) => write!(f, "{}: {why}", end_name(row.end)),
-                None => f.write_str(end_name(row.end)),
+            Field::End(message) => match why(message) {
+                Some(why) => write!(f, "{}: {why}", end_name(message.state.end)),
+                None => f.write_str(end_name(message.state.end)),
             },
-            Field::Words(row) => write_words(f, row),
+            Field::Words(message) => write_words(f, message),
+            Field::Handed(handed) => write_handed(f, handed),
             Field::Digits(Some(word)) => write!(f, "{word:04x}"),
             Field::Bits(Some(word)) => write_bits(f, word, false),
             Field::Status(Some(word)) => {

@@ -3,8 +3,7 @@ ghost use Rattle.std.specs.Prelude.{◌≡◌};
 ghost use Rattle.message_rows.specs.Filter.{is_faulty, is_chosen, passes};
 
 use crate::commands::MessageCommands;
-use crate::ending::RowEnd;
-use crate::row::RunRow;
+use terminal_messages::{KeptMessage, MessageEnding};
 
 /// Which messages are printed.
 #[derive(Clone, Copy)]
@@ -17,16 +16,14 @@ pub struct RowFilter {
     pub errors: bool,
 }
 
-impl RunRow {
-    /// Whether it is for the terminal and was not done, or lacks its reply or a part of it.
-    pub fn is_faulty(&self) -> bool
-        ensures { result ≡ is_faulty self.now.end self.now.unsent }
-    {
-        match self.end {
-            RowEnd::Other => false,
-            RowEnd::Done => self.unsent.is_some(),
-            _ => true,
-        }
+/// Whether a message is for the terminal and was not done, or lacks its reply or a part of it.
+pub fn is_faulty(message: &KeptMessage) -> bool
+    ensures { result ≡ is_faulty message.now.state.«end» message.now.state.unsent }
+{
+    match message.state.end {
+        MessageEnding::Other => false,
+        MessageEnding::Done => message.state.unsent.is_some(),
+        _ => true,
     }
 }
 
@@ -47,9 +44,9 @@ impl RowFilter {
     }
 
     /// Whether a message is printed.
-    pub fn passes(&self, row: &RunRow) -> bool
-        ensures { result ≡ passes self.now row.now }
+    pub fn passes(&self, message: &KeptMessage) -> bool
+        ensures { result ≡ passes self.now message.now }
     {
-        self.is_chosen(&row.commands) && (!self.errors || row.is_faulty())
+        self.is_chosen(&MessageCommands::of(message)) && (!self.errors || is_faulty(message))
     }
 }

@@ -1,16 +1,18 @@
 //! Rows as JSON.
+use crate::commands::MessageCommands;
 use crate::field::Field;
-use crate::row::RunRow;
 use crate::status::{STATUS_BITS, is_bit_set};
 use crate::text::{bus_name, count_of, end_name, form_name, why};
+use bus_terminal::CopiedAnswer;
 use bus_word::{Command, mode_name};
 use serde::{Described, Serialize, Serializer};
 use std::alloc::Global;
+use terminal_messages::KeptMessage;
 
-/// A row, and the name of its message, null for none; left out where there are no names.
+/// A message, and its name, null for none; left out where there are no names.
 #[derive(Clone, Copy)]
 struct RowJson<'a> {
-    row: &'a RunRow,
+    message: &'a KeptMessage,
     name: Option<Option<&'a str>>,
 }
 
@@ -41,8 +43,11 @@ fn write_field<S: Serializer>(out: &mut S, field: &Field<'_>) -> Result<(), S::E
         Field::Number(number) => out.u64(number),
         Field::Small(Some(number)) => out.u64(u64::from(number)),
         Field::Text(Some(text)) => out.str(text),
-        Field::Small(None) | Field::Text(None) | Field::Digits(None) => out.unit(),
-        Field::Words(row) => write_words(out, row.data.as_slice()),
+        Field::Small(None)
+        | Field::Text(None)
+        | Field::Digits(None)
+        | Field::Handed(CopiedAnswer::Silent) => out.unit(),
+        Field::Words(message) => write_words(out, message.words.as_slice()),
         Field::Bits(status) => write_bits(out, status),
         _ => out.collect_str(field),
     }
@@ -88,31 +93,32 @@ impl Described for RowJson<'_> {}
 
 impl Serialize for RowJson<'_> {
     fn serialize<S: Serializer>(&self, out: &mut S) -> Result<(), S::Error> {
-        let row = self.row;
+        let message = self.message;
+        let commands = MessageCommands::of(message);
         out.begin_map(None)?;
         write_members(
             out,
             &[
-                ("number", Field::Number(row.number)),
-                ("line", Field::Number(row.line)),
-                ("bus", Field::Text(Some(bus_name(row.bus)))),
-                ("kind", Field::Text(Some(form_name(row.commands.form())))),
+                ("number", Field::Number(message.number)),
+                ("line", Field::Number(message.place)),
+                ("bus", Field::Text(Some(bus_name(message.state.bus)))),
+                ("kind", Field::Text(Some(form_name(commands.form())))),
             ],
         )?;
         out.key("command")?;
-        write_command(out, Some(row.commands.command))?;
+        write_command(out, Some(commands.command))?;
         out.key("transmitter")?;
-        write_command(out, row.commands.transmitter)?;
+        write_command(out, commands.transmitter)?;
         write_members(
             out,
             &[
-                ("ended", Field::Text(Some(end_name(row.end)))),
-                ("why", Field::Text(why(row))),
-                ("data", Field::Words(row)),
-                ("left_out", Field::Number(row.left_out)),
-                ("status", Field::Digits(row.status)),
-                ("bits", Field::Bits(row.status)),
-                ("handed", Field::Text(row.handed_text())),
+                ("ended", Field::Text(Some(end_name(message.state.end)))),
+                ("why", Field::Text(why(message))),
+                ("data", Field::Words(message)),
+                ("left_out", Field::Number(message.left_out)),
+                ("status", Field::Digits(message.state.status)),
+                ("bits", Field::Bits(message.state.status)),
+                ("handed", Field::Handed(&message.handed)),
             ],
         )?;
         if let Some(name) = self.name {
@@ -122,8 +128,12 @@ impl Serialize for RowJson<'_> {
     }
 }
 
-/// A row as one line of JSON, without a line feed; with the name of its message, which may have none, where there are names. None where
-/// memory runs out.
-pub fn row_json(alloc: Global, row: &RunRow, name: Option<Option<&str>>) -> Option<String> {
-    serde_json::to_string(alloc, &RowJson { row, name }).ok()
+/// A message as one line of JSON, without a line feed; with its name, of which it may have none, where there are names. None where memory
+/// runs out.
+pub fn row_json(
+    alloc: Global,
+    message: &KeptMessage,
+    name: Option<Option<&str>>,
+) -> Option<String> {
+    serde_json::to_string(alloc, &RowJson { message, name }).ok()
 }

@@ -3,11 +3,12 @@ ghost use Rattle.std.specs.Prelude.{◌≡◌, map, IfOk};
 ghost use Rattle.csv.specs.Writing.{row_text};
 ghost use Rattle.message_rows.specs.inner.Table.{rows_writer};
 
+use crate::commands::MessageCommands;
 use crate::field::{Field, texts_of};
-use crate::row::RunRow;
 use crate::text::{bus_name, count_of, end_name, form_name, why};
 use csv::{Terminator, WriterBuilder};
 use std::alloc::{AllocError, Global};
+use terminal_messages::KeptMessage;
 
 /// How many columns there are.
 const NAMED: usize = 17;
@@ -61,35 +62,40 @@ pub fn rows_header(alloc: Global, with_names: bool) -> Result<Vec<u8>, AllocErro
     }
 }
 
-/// The fields of a row, with the name of its message.
-fn fields_of<'a>(row: &'a RunRow, name: Option<&'a str>) -> [Field<'a>; NAMED] {
-    let command = row.commands.command;
+/// The fields of a message, with its name.
+fn fields_of<'a>(message: &'a KeptMessage, name: Option<&'a str>) -> [Field<'a>; NAMED] {
+    let commands = MessageCommands::of(message);
+    let command = commands.command;
     let code = command.is_mode().then_some(command.code());
-    let transmitter = row.commands.transmitter.map(|command| command.bits());
+    let transmitter = commands.transmitter.map(|command| command.bits());
     [
-        Field::Number(row.number),
-        Field::Number(row.line),
-        Field::Text(Some(bus_name(row.bus))),
-        Field::Text(Some(form_name(row.commands.form()))),
+        Field::Number(message.number),
+        Field::Number(message.place),
+        Field::Text(Some(bus_name(message.state.bus))),
+        Field::Text(Some(form_name(commands.form()))),
         Field::Address(command.address()),
         Field::Small(Some(command.subaddress())),
         Field::Small(code),
         Field::Small(count_of(command)),
         Field::Digits(Some(command.bits())),
         Field::Digits(transmitter),
-        Field::Text(Some(end_name(row.end))),
-        Field::Text(why(row)),
-        Field::Words(row),
-        Field::Digits(row.status),
-        Field::Bits(row.status),
-        Field::Text(row.handed_text()),
+        Field::Text(Some(end_name(message.state.end))),
+        Field::Text(why(message)),
+        Field::Words(message),
+        Field::Digits(message.state.status),
+        Field::Bits(message.state.status),
+        Field::Handed(&message.handed),
         Field::Text(name),
     ]
 }
 
-/// A row of the table, with CR and LF behind it: with the name of its message in a last column, where there are names.
-pub fn row_record(alloc: Global, row: &RunRow, name: Option<&str>) -> Result<Vec<u8>, AllocError> {
-    let fields = fields_of(row, name);
+/// A message as a row of the table, with CR and LF behind it: with its name in a last column, where there are names.
+pub fn row_record(
+    alloc: Global,
+    message: &KeptMessage,
+    name: Option<&str>,
+) -> Result<Vec<u8>, AllocError> {
+    let fields = fields_of(message, name);
     let count = if name.is_some() { NAMED } else { NAMELESS };
     let cells = texts_of(alloc, &fields[..count])?;
     let mut fields = Vec::new(alloc);

@@ -1,11 +1,10 @@
 //! Rows as lines of text.
-use crate::commands::MessageForm;
-use crate::ending::{ErrorCause, IgnoreCause, RowEnd, Unsent};
-use crate::field::Field;
-use crate::row::RunRow;
+use crate::commands::{MessageCommands, MessageForm};
+use crate::field::{Field, texts_of};
 use bus_word::{Bus, Command};
 use message_names::quoted;
 use std::alloc::{AllocError, Global};
+use terminal_messages::{ErrorCause, IgnoreCause, KeptMessage, MessageEnding, Unsent};
 
 /// The line above the rows.
 pub const ROW_HEADER: &str = "number    line bus kind      RT sub words ended\n";
@@ -29,16 +28,16 @@ pub fn form_name(form: MessageForm) -> &'static str {
 }
 
 /// How a message ended, in a word or two.
-pub fn end_name(end: RowEnd) -> &'static str {
+pub fn end_name(end: MessageEnding) -> &'static str {
     match end {
-        RowEnd::Other => "other",
-        RowEnd::Open => "open",
-        RowEnd::Ignored(_) => "ignored",
-        RowEnd::Superseded => "superseded",
-        RowEnd::InError(_) => "in error",
-        RowEnd::Illegal => "illegal",
-        RowEnd::Busy => "busy",
-        RowEnd::Done => "done",
+        MessageEnding::Other => "other",
+        MessageEnding::Open => "open",
+        MessageEnding::Ignored(_) => "ignored",
+        MessageEnding::Superseded => "superseded",
+        MessageEnding::InError(_) => "in error",
+        MessageEnding::Illegal => "illegal",
+        MessageEnding::Busy => "busy",
+        MessageEnding::Done => "done",
     }
 }
 
@@ -62,10 +61,10 @@ fn ignore_name(cause: IgnoreCause) -> &'static str {
 }
 
 /// Why a message ended so, where there is a reason, or lacks its reply or a part of it.
-pub fn why(row: &RunRow) -> Option<&'static str> {
-    match (row.end, row.unsent) {
-        (RowEnd::InError(cause), _) => Some(cause_name(cause)),
-        (RowEnd::Ignored(cause), _) => Some(ignore_name(cause)),
+pub fn why(message: &KeptMessage) -> Option<&'static str> {
+    match (message.state.end, message.state.unsent) {
+        (MessageEnding::InError(cause), _) => Some(cause_name(cause)),
+        (MessageEnding::Ignored(cause), _) => Some(ignore_name(cause)),
         (_, Some(Unsent::ShutDown)) => Some("transmitter shut down"),
         (_, Some(Unsent::Dropped)) => Some("reply dropped by a command on the other bus"),
         (_, None) => None,
@@ -90,21 +89,34 @@ pub fn count_of(command: Command) -> Option<u8> {
     }
 }
 
+/// The fields in the columns of a row.
+fn columns_of(message: &KeptMessage) -> [Field<'_>; 8] {
+    let commands = MessageCommands::of(message);
+    let command = commands.command;
+    [
+        Field::Number(message.number),
+        Field::Number(message.place),
+        Field::Text(Some(bus_name(message.state.bus))),
+        Field::Text(Some(form_name(commands.form()))),
+        Field::Address(command.address()),
+        Field::Small(Some(place_of(command))),
+        Field::Small(count_of(command)),
+        Field::Text(Some(end_name(message.state.end))),
+    ]
+}
+
 /// Adds the columns of a row.
-fn push_columns(alloc: Global, text: &mut String, row: &RunRow) -> Result<(), AllocError> {
-    let command = row.commands.command;
-    let (number, line) = (row.number, row.line);
-    let (bus, form) = (bus_name(row.bus), form_name(row.commands.form()));
-    let address = format!(in alloc; "{}", Field::Address(command.address()))?;
-    let address = address.as_str();
-    let place = place_of(command);
-    let count = format!(in alloc; "{}", Field::Small(count_of(command)))?;
-    let count = count.as_str();
-    let end = end_name(row.end);
-    write!(
-        text,
-        "{number:>6} {line:>7} {bus}   {form:<8} {address:>3} {place:>3} {count:>5} {end}"
-    )
+fn push_columns(text: &mut String, columns: &[String]) -> Result<(), AllocError> {
+    if let [number, line, bus, form, address, place, count, end] = columns {
+        let (number, line, bus) = (number.as_str(), line.as_str(), bus.as_str());
+        let (form, address, place) = (form.as_str(), address.as_str(), place.as_str());
+        let (count, end) = (count.as_str(), end.as_str());
+        write!(
+            text,
+            "{number:>6} {line:>7} {bus}   {form:<8} {address:>3} {place:>3} {count:>5} {end}"
+        )?;
+    }
+    Ok(())
 }
 
 /// Adds fields, each behind these words, where there is something.
@@ -122,16 +134,21 @@ fn push_told(
     Ok(())
 }
 
-/// A row as a line of text, with its line feed; with the name of its message, where it has one.
-pub fn row_text(alloc: Global, row: &RunRow, name: Option<&str>) -> Result<String, AllocError> {
+/// A message as a line of text, with its line feed; with its name, where it has one.
+pub fn row_text(
+    alloc: Global,
+    message: &KeptMessage,
+    name: Option<&str>,
+) -> Result<String, AllocError> {
     let mut text = String::new(alloc);
-    push_columns(alloc, &mut text, row)?;
+    let columns = texts_of(alloc, &columns_of(message))?;
+    push_columns(&mut text, columns.as_slice())?;
     push_told(
         alloc,
         &mut text,
         &[
-            (", ", Field::Text(why(row))),
-            ("; from ", Field::Transmitter(row.commands.transmitter)),
+            (", ", Field::Text(why(message))),
+            ("; from ", Field::Transmitter(message.state.second)),
         ],
     )?;
     if let Some(name) = name {
@@ -141,9 +158,9 @@ pub fn row_text(alloc: Global, row: &RunRow, name: Option<&str>) -> Result<Strin
         alloc,
         &mut text,
         &[
-            ("; data ", Field::Words(row)),
-            ("; status ", Field::Status(row.status)),
-            ("; hand ", Field::Text(row.handed_text())),
+            ("; data ", Field::Words(message)),
+            ("; status ", Field::Status(message.state.status)),
+            ("; hand ", Field::Handed(&message.handed)),
         ],
     )?;
     text.push('\n')?;

@@ -2,7 +2,7 @@
 use Rattle.std.specs.Prelude.{ℕ, ◌≡◌, Bool, true, false, List, ◌++◌, codes, String, string_bytes}
 use Rattle.std.specs.Global.{Global}
 use Rattle.std.specs.Fmt.{decimal}
-use Rattle.message_rows.specs.declared.row.RunRow.{RunRow}
+use Rattle.terminal_messages.specs.declared.kept.KeptMessage.{KeptMessage}
 use Rattle.message_rows.specs.Filter.{is_faulty}
 use Rattle.rt1553_draw.specs.Anchor.{anchor}
 use Rattle.rt1553_report.specs.Shown.{StandsFor}
@@ -23,7 +23,7 @@ abbrev pub IsCell : String Global → List ℕ → Type 0
 IsCell cell field = (written : List ℕ) × StandsFor (string_bytes cell) written × (field ≡ codes "<td>" ++ written ++ codes "</td>")
 
 -- the row of a message: a link to the line of its command, that line, and its cells
-unfoldable pub IsListRow : RunRow → List (String Global) → List ℕ → Type 0
-IsListRow row cells text =
+unfoldable pub IsListRow : KeptMessage → List (String Global) → List ℕ → Type 0
+IsListRow m cells text =
     (fields : List ℕ) × AreRowsOf IsCell cells fields
-    × (text ≡ list_begin (is_faulty row.end row.unsent) ++ link_field row.number row.line ++ count_field row.line ++ fields ++ codes "</tr>\n")
+    × (text ≡ list_begin (is_faulty m.state.«end» m.state.unsent) ++ link_field m.number m.place ++ count_field m.place ++ fields ++ codes "</tr>\n")

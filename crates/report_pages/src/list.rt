@@ -6,9 +6,10 @@ ghost use Rattle.report_pages.specs.CoveragePage.{AreRowsOf};
 ghost use Rattle.report_pages.specs.MessageList.{IsCell, IsListRow, link_field, list_begin};
 
 use crate::fields::{push_count_field, push_plain_number};
-use message_rows::{CELL_NAMES, RunRow};
+use message_rows::{CELL_NAMES, is_faulty};
 use rt1553_report::{push_markup, push_shown};
 use std::alloc::{AllocError, Global};
+use terminal_messages::KeptMessage;
 
 /// What stands above the table: what its script shows, which is hidden where no script runs.
 const CHOICE: &str =
@@ -112,14 +113,14 @@ fn push_cells(alloc: Global, page: &mut String, cells: &[String]) -> Result<(), 
 pub fn push_list_row(
     alloc: Global,
     page: &mut String,
-    row: &RunRow,
+    message: &KeptMessage,
     cells: &[String],
 ) -> Result<(), AllocError>
-    ensures { OnOk result ((text : List ℕ) × IsListRow row.now cells.now text × AddsPiece (string_bytes page.old) (string_bytes page.new) text) }
+    ensures { OnOk result ((text : List ℕ) × IsListRow message.now cells.now text × AddsPiece (string_bytes page.old) (string_bytes page.new) text) }
 {
-    push_list_begin(page, row.is_faulty())?;
-    push_link(page, row.number, row.line)?;
-    push_count_field(page, row.line)?;
+    push_list_begin(page, is_faulty(message))?;
+    push_link(page, message.number, message.place)?;
+    push_count_field(page, message.place)?;
     push_cells(alloc, page, cells)?;
     push_markup(page, "</tr>\n")
 }

@@ -2,50 +2,48 @@
 use bus_legal::Normal;
 use bus_terminal::Event;
 use bus_word::{Bus, Kind, Raw};
-use message_rows::{ClosedRows, MessageWatch, RunRow, row_text};
+use message_rows::row_text;
 use rt1553::load;
 use script_lines::read_event;
 use std::alloc::{AllocError, Global};
 use std::test::Fail;
+use terminal_messages::{ClosedMessages, KeptMessage, MessageWatch};
 
-/// Adds the row of a message, if there is one.
-fn push_row(rows: &mut Vec<RunRow>, row: Option<RunRow>) -> Result<(), AllocError> {
-    match row {
-        Some(row) => {
-            rows.push(row)?;
-            Ok(())
+/// Adds messages that are over.
+fn push_closed(messages: &mut Vec<KeptMessage>, closed: ClosedMessages) -> Result<(), AllocError> {
+    for message in [closed.first, closed.second, closed.unheard] {
+        if let Some(message) = message {
+            messages.push(message)?;
         }
-        None => Ok(()),
     }
+    Ok(())
 }
 
-/// Adds the rows of messages that are over.
-fn push_closed(rows: &mut Vec<RunRow>, closed: ClosedRows) -> Result<(), AllocError> {
-    push_row(rows, closed.earlier)?;
-    push_row(rows, closed.later)
-}
-
-/// The rows of a run by a script.
-fn rows_of(alloc: Global, normal: &Normal, script: &str) -> Result<Vec<RunRow>, AllocError> {
+/// The messages of a run by a script.
+fn messages_of(
+    alloc: Global,
+    normal: &Normal,
+    script: &str,
+) -> Result<Vec<KeptMessage>, AllocError> {
     let mut watch = MessageWatch::power_up(normal.setup(), *normal);
-    let mut rows = Vec::new(alloc);
+    let mut messages = Vec::new(alloc);
     let mut number = 0u64;
     for line in script.lines() {
         number = number.saturating_add(1);
         if let Ok(Some(event)) = read_event(line.as_bytes()) {
-            push_closed(&mut rows, watch.step(event, number))?;
+            push_closed(&mut messages, watch.step(event, number))?;
         }
     }
-    push_closed(&mut rows, watch.end())?;
-    Ok(rows)
+    push_closed(&mut messages, watch.end())?;
+    Ok(messages)
 }
 
 /// The rows as text.
 fn text_of(alloc: Global, normal: &Normal, script: &str) -> Result<String, AllocError> {
-    let rows = rows_of(alloc, normal, script)?;
+    let messages = messages_of(alloc, normal, script)?;
     let mut text = String::new(alloc);
-    for row in rows.as_slice() {
-        text.push_str(row_text(alloc, row, None)?.as_str())?;
+    for message in messages.as_slice() {
+        text.push_str(row_text(alloc, message, None)?.as_str())?;
     }
     Ok(text)
 }
@@ -100,12 +98,12 @@ fn words_that_a_row_has_no_room_for(rt: HostRuntime) -> Result<(), Fail> {
     for _word in 0..70 {
         script.push_str("A d 0001\n")?;
     }
-    let rows = rows_of(rt.alloc(), &normal, script.as_str())?;
-    let Some(row) = rows.as_slice().first() else {
+    let messages = messages_of(rt.alloc(), &normal, script.as_str())?;
+    let Some(message) = messages.as_slice().first() else {
         return Ok(());
     };
-    assert_eq!(rt; row.data.len(), 64);
-    assert_eq!(rt; row.left_out, 6);
+    assert_eq!(rt; message.words.len(), 64);
+    assert_eq!(rt; message.left_out, 6);
     Ok(())
 }
 
@@ -115,10 +113,10 @@ fn message_of_a_command(rt: HostRuntime) -> Result<(), Fail> {
     let mut watch = MessageWatch::power_up(normal.setup(), normal);
     watch.step(Event::Word(Bus::A, Raw::of(Kind::Com, 0x2c02)), 1);
     let closed = watch.end();
-    let Some(row) = closed.earlier else {
+    let Some(message) = closed.first else {
         return Ok(());
     };
-    let text = row_text(rt.alloc(), &row, None)?;
+    let text = row_text(rt.alloc(), &message, None)?;
     let line = "     1       1 A   mode       5   2       open\n";
     assert_eq!(rt; text.as_str(), line);
     Ok(())

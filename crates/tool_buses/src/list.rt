@@ -2,10 +2,11 @@
 ghost use Rattle.std.specs.Prelude.{◌≡◌, IfOk};
 
 use crate::play::{refused_script, warn};
-use crate::watch::{TakesRows, WatchedBus};
-use message_rows::{ROW_HEADER, RunRow, row_text};
+use crate::watch::{TakesMessages, WatchedBus};
+use message_rows::{ROW_HEADER, row_text};
 use std::alloc::Global;
 use std::io::Write;
+use terminal_messages::KeptMessage;
 use tool_files::{LoadedScript, ToolFault, write_bytes};
 
 /// The lines of rows.
@@ -15,9 +16,9 @@ struct RowLines {
     text: Vec<u8>,
 }
 
-impl TakesRows for RowLines {
-    fn take(&mut self, _address: u8, row: &RunRow) -> Result<(), ToolFault> {
-        let line = row_text(self.alloc, row, None)?;
+impl TakesMessages for RowLines {
+    fn take(&mut self, _address: u8, message: &KeptMessage) -> Result<(), ToolFault> {
+        let line = row_text(self.alloc, message, None)?;
         self.text.extend_from_slice(line.as_str().as_bytes())?;
         Ok(())
     }

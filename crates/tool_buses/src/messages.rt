@@ -4,23 +4,24 @@ ghost use Rattle.std.specs.Prelude.{◌<◌, length};
 use crate::legal::legal_text;
 use crate::names::{has_profile, normal_at};
 use crate::trouble::{CommandTrouble, command_trouble};
-use crate::watch::{ALL_TERMINALS, SpokenTo, TakesRows};
+use crate::watch::{ALL_TERMINALS, SpokenTo, TakesMessages};
 use bus_reports::{PutMessage, RateGroup, RateLine, rate_line};
 use bus_word::{Bus, Command};
-use message_rows::{MessageCommands, RowEnd, RunRow, row_cells};
+use message_rows::{MessageCommands, is_faulty, row_cells};
 use refused_lines::first_line;
 use rt1553::{Event, Normal};
 use script_terminals::read_bus_line;
 use std::alloc::{AllocError, Global};
 use terminal_bus::BusEvent;
+use terminal_messages::{KeptMessage, MessageEnding};
 use tool_files::{LoadedScript, ToolFault};
 
 /// Which of the cells of a row tells how it ended, and why.
 const ENDED_CELL: usize = 7;
 
-/// What is told of a row.
+/// What is told of a message at a terminal.
 #[derive(Drop)]
-struct ToldRow {
+struct ToldEnd {
     /// The address of its terminal.
     address: u8,
     /// How the message ended there.
@@ -33,12 +34,12 @@ struct ToldRow {
 /// What came of a command of a message.
 #[derive(Drop)]
 struct CommandResult {
-    /// The addresses of the terminals that have a row of it.
+    /// The addresses of the terminals that have a message of it.
     seen_at: Vec<u8>,
     /// It is done at a terminal.
     is_done: bool,
-    /// What is told of the rows.
-    told: Vec<ToldRow>,
+    /// What is told of these.
+    told: Vec<ToldEnd>,
 }
 
 /// A message of a file, and what came of it.
@@ -109,9 +110,9 @@ pub struct FoundMessages {
     lone_b: Option<LoneCommand>,
 }
 
-/// How the message of a row ended at the terminal of this address, and why, as a list of messages tells it.
-fn row_reason(alloc: Global, address: u8, row: &RunRow) -> Result<String, AllocError> {
-    let cells = row_cells(alloc, row, None)?;
+/// How a message ended at the terminal of this address, and why, as a list of messages tells it.
+fn end_reason(alloc: Global, address: u8, message: &KeptMessage) -> Result<String, AllocError> {
+    let cells = row_cells(alloc, message, None)?;
     let ended = match cells.as_slice().get(ENDED_CELL) {
         Some(cell) => cell.as_str(),
         None => "",
@@ -139,7 +140,7 @@ fn word_for(commands: &MessageCommands, address: u8) -> Option<u16> {
     commands.named(address).map(|command| command.bits())
 }
 
-impl ToldRow {
+impl ToldEnd {
     /// What is legal where this command was illegal.
     fn legal(
         &self,
@@ -179,16 +180,22 @@ impl CommandResult {
         }
     }
 
-    /// Takes the row of a terminal.
-    fn take_row(&mut self, alloc: Global, address: u8, row: &RunRow) -> Result<(), AllocError> {
+    /// Takes the message of a terminal.
+    fn take(
+        &mut self,
+        alloc: Global,
+        address: u8,
+        message: &KeptMessage,
+    ) -> Result<(), AllocError> {
+        let state = &message.state;
         self.seen_at.push(address)?;
-        self.is_done = self.is_done || row.end == RowEnd::Done;
-        if row.is_faulty() {
-            self.told.push(ToldRow {
+        self.is_done = self.is_done || state.end == MessageEnding::Done;
+        if is_faulty(message) {
+            self.told.push(ToldEnd {
                 address,
-                text: row_reason(alloc, address, row)?,
-                is_illegal: row.end == RowEnd::Illegal,
-                has_cause: row.unsent.is_some(),
+                text: end_reason(alloc, address, message)?,
+                is_illegal: state.end == MessageEnding::Illegal,
+                has_cause: state.unsent.is_some(),
             })?;
         }
         Ok(())
@@ -233,16 +240,16 @@ impl FileMessage {
         }
     }
 
-    /// Whether a row of the terminal of this address is of the message: the same command speaks to the terminal.
-    fn has_row(&self, address: u8, row: &RunRow) -> bool {
+    /// Whether a message of the terminal of this address is this one: the same command speaks to the terminal.
+    fn is_that(&self, address: u8, message: &KeptMessage) -> bool {
         let commands = MessageCommands {
             command: Command::of(self.put.command),
             transmitter: self.put.transmitter.map(Command::of),
         };
-        word_for(&commands, address) == word_for(&row.commands, address)
+        word_for(&commands, address) == word_for(&MessageCommands::of(message), address)
     }
 
-    /// Adds the terminals that are to receive its broadcast and have no row of it.
+    /// Adds the terminals that are to receive its broadcast and have no message of it.
     fn push_unheard(
         &self,
         normals: &[Normal],
@@ -278,27 +285,31 @@ impl FileMessage {
     }
 }
 
-impl TakesRows for FileMessage {
-    fn take(&mut self, address: u8, row: &RunRow) -> Result<(), ToolFault> {
-        if !self.has_row(address, row) {
+impl TakesMessages for FileMessage {
+    fn take(&mut self, address: u8, message: &KeptMessage) -> Result<(), ToolFault> {
+        if !self.is_that(address, message) {
             return Ok(());
         }
         if self.spoken_to.transmitter == Some(address) {
-            self.second.take_row(self.alloc, address, row)?;
+            self.second.take(self.alloc, address, message)?;
         } else {
-            self.first.take_row(self.alloc, address, row)?;
+            self.first.take(self.alloc, address, message)?;
         }
         Ok(())
     }
 }
 
-impl TakesRows for FileMessages {
-    fn take(&mut self, address: u8, row: &RunRow) -> Result<(), ToolFault> {
-        if row.line == 0 {
+impl TakesMessages for FileMessages {
+    fn take(&mut self, address: u8, message: &KeptMessage) -> Result<(), ToolFault> {
+        if message.place == 0 {
             return Ok(());
         }
-        match self.items.as_mut_slice().get_mut((row.line - 1) as usize) {
-            Some(message) => message.take(address, row),
+        match self
+            .items
+            .as_mut_slice()
+            .get_mut((message.place - 1) as usize)
+        {
+            Some(of_file) => of_file.take(address, message),
             None => Ok(()),
         }
     }

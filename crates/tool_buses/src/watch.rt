@@ -1,20 +1,20 @@
 //! Terminals on a bus, beside each of which its messages are watched.
-use message_rows::{ClosedRows, MessageWatch, RowEnd, RunRow};
 use refused_lines::{first_line, line_in_file};
 use rt1553::{Event, Normal};
 use script_lines::MAX_LINES;
 use script_terminals::{BusLineFault, BusScriptFault, BusWarning, read_bus_line};
 use std::alloc::{AllocError, Global};
 use terminal_bus::{BusEvent, CameTo, TerminalBus};
+use terminal_messages::{ClosedMessages, KeptMessage, MessageEnding, MessageWatch};
 use tool_files::ToolFault;
 
 /// The address of all terminals.
 pub const ALL_TERMINALS: u8 = 31;
 
-/// What takes the rows of messages as they end, each for the terminal of this address.
-pub trait TakesRows {
-    /// Takes a row.
-    fn take(&mut self, address: u8, row: &RunRow) -> Result<(), ToolFault>;
+/// What takes messages as they are over, each for the terminal of this address.
+pub trait TakesMessages {
+    /// Takes a message.
+    fn take(&mut self, address: u8, message: &KeptMessage) -> Result<(), ToolFault>;
 }
 
 /// To which terminals a message speaks.
@@ -42,15 +42,17 @@ pub struct WatchedBus {
 }
 
 impl WatchedTerminal {
-    /// Hands the rows of messages on that are over, of those that are for the terminal.
-    fn hand_closed<T: TakesRows>(
+    /// Hands the messages on that are over, of those that are for the terminal.
+    fn hand_closed<T: TakesMessages>(
         &self,
-        closed: &ClosedRows,
+        closed: &ClosedMessages,
         taker: &mut T,
     ) -> Result<(), ToolFault> {
-        for row in [&closed.earlier, &closed.later] {
-            match row {
-                Some(row) if row.end != RowEnd::Other => taker.take(self.address, row)?,
+        for message in [&closed.first, &closed.second, &closed.unheard] {
+            match message {
+                Some(message) if message.state.end != MessageEnding::Other => {
+                    taker.take(self.address, message)?
+                }
                 _ => {}
             }
         }
@@ -58,7 +60,7 @@ impl WatchedTerminal {
     }
 
     /// Plays what came in a step of the bus, under this number.
-    fn play_came<T: TakesRows>(
+    fn play_came<T: TakesMessages>(
         &mut self,
         came: &CameTo,
         number: u64,
@@ -152,8 +154,8 @@ impl WatchedBus {
         Ok(())
     }
 
-    /// Plays an event under this number, and hands the rows on that it ends, in the order of the terminals.
-    fn play_event<T: TakesRows>(
+    /// Plays an event under this number, and hands the messages on that are over with it, in the order of the terminals.
+    fn play_event<T: TakesMessages>(
         &mut self,
         event: &BusEvent,
         number: u64,
@@ -169,8 +171,8 @@ impl WatchedBus {
         Ok(())
     }
 
-    /// Hands the rows of messages on that are left, in the order of the terminals.
-    fn end<T: TakesRows>(&mut self, taker: &mut T) -> Result<(), ToolFault> {
+    /// Hands the messages on that are left, in the order of the terminals.
+    fn end<T: TakesMessages>(&mut self, taker: &mut T) -> Result<(), ToolFault> {
         for terminal in self.terminals.iter_mut() {
             let closed = terminal.watch.end();
             terminal.hand_closed(&closed, taker)?;
@@ -178,9 +180,9 @@ impl WatchedBus {
         Ok(())
     }
 
-    /// Plays a script, and hands the rows of its messages on as they end. The events of its lines count under `numbers`, or under the
+    /// Plays a script, and hands its messages on as they are over. The events of its lines count under `numbers`, or under the
     /// numbers of the lines. Gives the fault for which the run ends before the script does.
-    pub fn play<T: TakesRows>(
+    pub fn play<T: TakesMessages>(
         &mut self,
         script: &[u8],
         numbers: Option<&[u64]>,

@@ -1,12 +1,13 @@
 //! The list of the messages on the page of a drawing.
 use bus_legal::Normal;
 use message_names::MessageNames;
-use message_rows::{ClosedRows, MessageWatch, RunRow, row_cells};
+use message_rows::{MessageCommands, row_cells};
 use refused_lines::{first_line, line_in_file};
 use report_pages::{push_list_end, push_list_front, push_list_row};
 use rt1553_draw::DrawnScript;
 use script_lines::read_event;
 use std::alloc::{AllocError, Global};
+use terminal_messages::{ClosedMessages, KeptMessage, MessageWatch};
 use tool_names::name_of_command;
 
 /// What the rows of the list have in common.
@@ -20,25 +21,26 @@ struct ListWriter<'a> {
 
 impl<'a> ListWriter<'a> {
     /// The name of a message, where it has one.
-    fn name_of(&self, row: &RunRow) -> Option<&'a str> {
+    fn name_of(&self, message: &KeptMessage) -> Option<&'a str> {
         let names = self.names?;
-        let command = row.commands.named(self.own)?;
+        let command = MessageCommands::of(message).named(self.own)?;
         name_of_command(names, command.bits())
     }
 
-    /// Writes a row, if there is one.
-    fn push_row(&self, page: &mut String, row: Option<RunRow>) -> Result<(), AllocError> {
-        let Some(row) = row else {
-            return Ok(());
-        };
-        let cells = row_cells(self.alloc, &row, self.name_of(&row))?;
-        push_list_row(self.alloc, page, &row, cells.as_slice())
+    /// Writes the row of a message.
+    fn push_row(&self, page: &mut String, message: &KeptMessage) -> Result<(), AllocError> {
+        let cells = row_cells(self.alloc, message, self.name_of(message))?;
+        push_list_row(self.alloc, page, message, cells.as_slice())
     }
 
     /// Writes the rows of messages that are over.
-    fn push_closed(&self, page: &mut String, closed: ClosedRows) -> Result<(), AllocError> {
-        self.push_row(page, closed.earlier)?;
-        self.push_row(page, closed.later)
+    fn push_closed(&self, page: &mut String, closed: ClosedMessages) -> Result<(), AllocError> {
+        for message in [&closed.first, &closed.second, &closed.unheard] {
+            if let Some(message) = message {
+                self.push_row(page, message)?;
+            }
+        }
+        Ok(())
     }
 
     /// Plays a line of this number, if it has an event, and writes the rows of the messages that are over then.

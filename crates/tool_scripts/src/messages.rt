@@ -8,8 +8,7 @@ use bus_script::RunFault;
 use byte_streams::{FromWrite, Sink, write_all};
 use message_names::MessageNames;
 use message_rows::{
-    ClosedRows, MessageWatch, ROW_HEADER, RowFilter, RunRow, row_json, row_record, row_text,
-    rows_header,
+    MessageCommands, ROW_HEADER, RowFilter, row_json, row_record, row_text, rows_header,
 };
 use refused_lines::first_line;
 use rt1553_files::escaped;
@@ -18,6 +17,7 @@ use script_lines::{LineFault, MAX_LINE, MAX_LINES, read_event};
 use std::alloc::{AllocError, Global};
 use std::io::Write;
 use std::rt::Files;
+use terminal_messages::{ClosedMessages, KeptMessage, MessageWatch};
 use tool_files::{LoadedScript, ToolFault, first_refused, load_profile, load_script, refused_file};
 use tool_names::{load_names, name_of_command};
 
@@ -53,51 +53,49 @@ impl<'a> RowPrinter<'a> {
     }
 
     /// The name of a message: None where there are no names, and that it has none where it has none.
-    fn name_of(&self, row: &RunRow) -> Option<Option<&'a str>> {
+    fn name_of(&self, message: &KeptMessage) -> Option<Option<&'a str>> {
         let names = self.names?;
-        let command = row.commands.named(self.own);
+        let command = MessageCommands::of(message).named(self.own);
         Some(command.and_then(|command| name_of_command(names, command.bits())))
     }
 
     /// A row of CSV.
-    fn record_of(&self, row: &RunRow) -> Result<Vec<u8>, AllocError> {
-        match self.name_of(row) {
+    fn record_of(&self, message: &KeptMessage) -> Result<Vec<u8>, AllocError> {
+        match self.name_of(message) {
             Some(name) => {
                 let name = escaped(self.alloc, name.unwrap_or("").as_bytes())?;
-                row_record(self.alloc, row, Some(name.as_str()))
+                row_record(self.alloc, message, Some(name.as_str()))
             }
-            None => row_record(self.alloc, row, None),
+            None => row_record(self.alloc, message, None),
         }
     }
 
-    /// Writes a row.
-    fn put_row<S: Sink>(&self, sink: &mut S, row: &RunRow) -> Result<(), ToolFault> {
+    /// Writes the row of a message.
+    fn put_row<S: Sink>(&self, sink: &mut S, message: &KeptMessage) -> Result<(), ToolFault> {
         match self.format {
             MessagesFormat::Text => {
-                let name = self.name_of(row).unwrap_or(None);
-                put(sink, row_text(self.alloc, row, name)?.as_str().as_bytes())
+                let name = self.name_of(message).unwrap_or(None);
+                let line = row_text(self.alloc, message, name)?;
+                put(sink, line.as_str().as_bytes())
             }
-            MessagesFormat::Csv => put(sink, self.record_of(row)?.as_slice()),
+            MessagesFormat::Csv => put(sink, self.record_of(message)?.as_slice()),
             MessagesFormat::Json => {
-                let json = row_json(self.alloc, row, self.name_of(row));
+                let json = row_json(self.alloc, message, self.name_of(message));
                 let line = named_json(self.alloc, json, self.names.is_some())?;
                 put(sink, line.as_str().as_bytes())
             }
         }
     }
 
-    /// Writes a row, if there is one and it passes the filter.
-    fn put_passed<S: Sink>(&self, sink: &mut S, row: Option<RunRow>) -> Result<(), ToolFault> {
-        match row {
-            Some(row) if self.filter.passes(&row) => self.put_row(sink, &row),
-            _ => Ok(()),
+    /// Writes the rows of messages that are over and pass the filter.
+    fn put_closed<S: Sink>(&self, sink: &mut S, closed: ClosedMessages) -> Result<(), ToolFault> {
+        for message in [&closed.first, &closed.second, &closed.unheard] {
+            match message {
+                Some(message) if self.filter.passes(message) => self.put_row(sink, message)?,
+                _ => {}
+            }
         }
-    }
-
-    /// Writes the rows of messages that are over.
-    fn put_closed<S: Sink>(&self, sink: &mut S, closed: ClosedRows) -> Result<(), ToolFault> {
-        self.put_passed(sink, closed.earlier)?;
-        self.put_passed(sink, closed.later)
+        Ok(())
     }
 }
 

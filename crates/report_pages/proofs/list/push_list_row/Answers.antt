@@ -12,7 +12,7 @@ unfolding IsListRow
 returns c =
     let cells = c.in_ok-push_cells.ensures in
     let begin = begun _ _ c.is_faulty.ensures c.in_ok-push_list_begin.ensures in
-    chosen c.push_markup.result (IsListRow c.args.row.now c.args.cells.now) _ _ _ (cells.0, cells.1, refl)
+    chosen c.push_markup.result (IsListRow c.args.message.now c.args.cells.now) _ _ _ (cells.0, cells.1, refl)
     (adds_on_ok c.push_markup.result _ _
     (adds (adds (adds begin c.in_ok-push_link.ensures) c.in_ok-push_count_field.ensures) cells.2)
     c.push_markup.ensures)

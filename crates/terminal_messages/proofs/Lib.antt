@@ -1,0 +1,16 @@
+pub mod Engaged
+pub mod StepLaw
+pub mod Fits
+pub mod Partition
+pub mod Firsts
+pub mod StateLaw
+pub mod ViewLaw
+pub mod Words
+pub mod Choice
+pub mod FoldLaw
+pub mod SeesLaw
+pub mod Placed
+pub mod EndsLaw
+pub mod ToldLaw
+pub mod Once
+pub mod Exact

@@ -1,0 +1,12 @@
+pub mod Told
+pub mod Message
+pub mod Parts
+pub mod Messages
+pub mod Ends
+pub mod WorkedExamples
+pub mod Laws
+pub mod State
+pub mod View
+pub mod Shown
+pub mod Fold
+pub mod Watch
