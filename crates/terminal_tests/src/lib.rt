@@ -20,6 +20,8 @@ mod recordings;
 #[cfg(test)]
 mod saved;
 #[cfg(test)]
+mod schedules;
+#[cfg(test)]
 mod scripts;
 #[cfg(test)]
 mod stepped;

@@ -1,0 +1,15 @@
+pub mod Seen
+pub mod Step
+pub mod Said
+pub mod Twins
+pub mod Law
+pub mod Rests
+pub mod Single
+pub mod FormatsLaw
+pub mod Between
+pub mod TransfersLaw
+pub mod ScheduleLaw
+pub mod Held
+pub mod Status
+pub mod TestLaw
+pub mod ClearLaw

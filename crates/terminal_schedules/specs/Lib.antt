@@ -1,0 +1,6 @@
+pub mod Schedule
+pub mod Formats
+pub mod Transfers
+pub mod Entries
+pub mod ScheduleRows
+pub mod inner
