@@ -179,7 +179,7 @@ pub record Further (P : Description) (place : ℕ → ℕ) (h : List Event) (e :
   pub over : shown_closed closed ≡ map (told_view P place) (closed_by (tell P h) (t_of P h e))
 
 pub further : (P : Description) (place : ℕ → ℕ) (h : List Event) (e : Event) (x : Facts) (ignored : Bool) (old new : MessageFold) (closed : ClosedMessages) →
-    x ≡ facts_of place (t_of P h e) → ignored ≡ is_ignored (t_of P h e).noted.turn → FoldStands P place h old → FoldSteps x ignored old new closed → Further P place h e new closed
+    x ≡ facts_of place (t_of P h e) → ignored ≡ is_ignored (t_of P h e).noted.turn → FoldStands P place h old → FoldSteps x ignored (part_by x.event x ignored (fold_view old)) old new closed → Further P place h e new closed
 further P place h e x ignored old new closed is i s f =
     let t : ToldEvent = t_of P h e in
     let views : fold_view old ≡ view_at P place (tell P h) = λ j b. s.kept b j in

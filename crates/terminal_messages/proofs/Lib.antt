@@ -14,3 +14,4 @@ pub mod EndsLaw
 pub mod ToldLaw
 pub mod Once
 pub mod Exact
+pub mod GoOnLaw

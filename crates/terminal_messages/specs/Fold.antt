@@ -7,12 +7,13 @@ use Rattle.terminal_rules.specs.declared.event.Event.{Event}
 use Rattle.std.specs.Option.{option_map}
 use Rattle.terminal_rules.specs.LookBack.{latest, or_else}
 use Rattle.terminal_messages.specs.declared.fold.MessageFold.{MessageFold}
+use Rattle.terminal_messages.specs.declared.part.MessagePart.{MessagePart}
 use Rattle.terminal_messages.specs.declared.fold.ClosedMessages.{ClosedMessages}
 use Rattle.terminal_messages.specs.Told.{ToldEvent, is_first_command, event_bus, begun_in}
 use Rattle.terminal_messages.specs.Message.{message_on_bus}
 use Rattle.terminal_messages.specs.Parts.{tell}
 use Rattle.terminal_messages.specs.State.{Facts, in_u64}
-use Rattle.terminal_messages.specs.View.{View, view_of, part_by, message_after, closed_after, alone_after, newest_after, next_number, number_after, view_listed, view_turn}
+use Rattle.terminal_messages.specs.View.{View, view_of, message_after, closed_after, alone_after, newest_after, next_number, number_after, view_listed, view_turn}
 use Rattle.terminal_messages.specs.Shown.{shown_slot}
 
 -- the messages that are over, as views
@@ -39,15 +40,12 @@ pub record FoldStands (P : Description) (place : ℕ → ℕ) (h : List Event) (
   pub newest : f.newest ≡ newest_on (tell P h)
   pub kept : (b : Bus) → fold_view f b ≡ option_map (view_of P place) (message_on_bus (tell P h) b)
 
--- the fold takes an event: what is kept of each bus, and which messages are over
-pub record FoldSteps (x : Facts) (ignored : Bool) (old new : MessageFold) (closed : ClosedMessages) : Type 0 where
+-- the fold takes an event of this part: what is kept of each bus, and which messages are over
+pub record FoldSteps (x : Facts) (ignored : Bool) (part : MessagePart) (old new : MessageFold) (closed : ClosedMessages) : Type 0 where
   pub own : new.own ≡ old.own
-  pub begun : new.begun ≡ number_after (part_by x.event x ignored (fold_view old)) old.begun
-  pub newest : new.newest ≡ newest_after x (part_by x.event x ignored (fold_view old)) old.newest
-  pub kept : (b : Bus) → fold_view new b
-      ≡ message_after old.own.address old.own.broadcast b x (part_by x.event x ignored (fold_view old)) ignored (next_number old.begun) (fold_view old b)
+  pub begun : new.begun ≡ number_after part old.begun
+  pub newest : new.newest ≡ newest_after x part old.newest
+  pub kept : (b : Bus) → fold_view new b ≡ message_after old.own.address old.own.broadcast b x part ignored (next_number old.begun) (fold_view old b)
   pub over : shown_closed closed
-      ≡ view_turn old.newest
-      (closed_after A x (part_by x.event x ignored (fold_view old)) (fold_view old A))
-      (closed_after B x (part_by x.event x ignored (fold_view old)) (fold_view old B))
-      ++ view_listed (alone_after old.own.address old.own.broadcast x (part_by x.event x ignored (fold_view old)) (next_number old.begun))
+      ≡ view_turn old.newest (closed_after A x part (fold_view old A)) (closed_after B x part (fold_view old B))
+      ++ view_listed (alone_after old.own.address old.own.broadcast x part (next_number old.begun))

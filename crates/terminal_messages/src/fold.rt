@@ -1,11 +1,11 @@
 //! The messages of a run, event by event, in fixed room.
-ghost use Rattle.std.specs.Prelude.{◌≡◌, ◌&&◌, ◌||◌, ◌++◌, [], List, ℕ};
+ghost use Rattle.std.specs.Prelude.{◌≡◌, ◌&&◌, ◌||◌, ◌++◌, [], List, ℕ, false, if◌then◌else◌};
 ghost use Rattle.std.specs.Option.{option_map};
 ghost use Rattle.bus_word.specs.declared.word.Bus.TheVariants.{A, B};
 ghost use Rattle.bus_legal.specs.Description.{Description};
 ghost use Rattle.terminal_rules.specs.Reply.{is_other};
 ghost use Rattle.bus_terminal.specs.Answer.{shown_copy};
-ghost use Rattle.terminal_messages.specs.Told.{is_first_command, event_bus, sent_bus};
+ghost use Rattle.terminal_messages.specs.Told.{is_first_command, begins_message, event_bus, sent_bus};
 ghost use Rattle.terminal_messages.specs.State.{facts_in};
 ghost use Rattle.terminal_messages.specs.View.{begins_by, closes_by, concerns_by, newest_after, next_number, number_after, part_of_kept, part_by, added_view, closed_view, begun_after, message_after, closed_after, alone_after, view_listed, view_turn};
 ghost use Rattle.terminal_messages.specs.Shown.{shown_slot};
@@ -147,21 +147,14 @@ fn closed_message(slot: Option<KeptMessage>, seen: &SeenEvent) -> Option<KeptMes
     }
 }
 
-/// The message with an event of this part that belongs to it.
-fn added_message(
-    slot: Option<KeptMessage>,
-    own: u8,
-    seen: &SeenEvent,
-    part: MessagePart,
-) -> Option<KeptMessage>
-    ensures { (ds : List ℕ) → shown_slot result ≡ option_map (added_view own (facts_in seen.now ds) part) (shown_slot slot) }
+/// Adds an event of this part to the message on a bus, if it belongs to it.
+fn add_on(slot: &mut Option<KeptMessage>, own: u8, bus: Bus, seen: &SeenEvent, part: MessagePart)
+    ensures { (ds : List ℕ) → shown_slot slot.new ≡ (if concerns_by bus (facts_in seen.now ds) seen.now.is_ignored then option_map (added_view own (facts_in seen.now ds) part) (shown_slot slot.old) else shown_slot slot.old) }
 {
-    match slot {
-        Some(mut message) => {
+    if concerns(bus, seen) {
+        if let Some(message) = slot {
             message.add(own, seen, part);
-            Some(message)
         }
-        None => None,
     }
 }
 
@@ -170,15 +163,6 @@ fn added_message(
 pub struct OwnAddress {
     pub address: u8,
     pub broadcast: bool,
-}
-
-/// What an event makes of the message on a bus.
-#[derive(Drop)]
-struct TakenOn {
-    /// The message that is over with it.
-    closed: Option<KeptMessage>,
-    /// The message that is there after it.
-    kept: Option<KeptMessage>,
 }
 
 /// The message that an event of this part begins on a bus, if it does.
@@ -198,34 +182,32 @@ fn begun_on(
     }
 }
 
-/// Takes an event of this part, with the message on a bus.
+/// Takes an event of this part, with the message on a bus, and gives that if it is over.
 fn take_on(
-    slot: Option<KeptMessage>,
+    slot: &mut Option<KeptMessage>,
     own: OwnAddress,
     bus: Bus,
     seen: &SeenEvent,
     part: MessagePart,
     number: u64,
-) -> TakenOn
-    ensures closed { (ds : List ℕ) → shown_slot result.closed ≡ closed_after bus (facts_in seen.now ds) part (shown_slot slot) }
-    ensures kept { (ds : List ℕ) → shown_slot result.kept ≡ message_after own.address own.broadcast bus (facts_in seen.now ds) part seen.now.is_ignored number (shown_slot slot) }
+) -> Option<KeptMessage>
+    ensures closed { (ds : List ℕ) → shown_slot result ≡ closed_after bus (facts_in seen.now ds) part (shown_slot slot.old) }
+    ensures kept { (ds : List ℕ) → shown_slot slot.new ≡ message_after own.address own.broadcast bus (facts_in seen.now ds) part seen.now.is_ignored number (shown_slot slot.old) }
 {
     if closes(bus, seen, part) {
-        TakenOn {
-            closed: closed_message(slot, seen),
-            kept: begun_on(own, bus, seen, part, number),
-        }
-    } else if concerns(bus, seen) {
-        TakenOn {
-            closed: None,
-            kept: added_message(slot, own.address, seen, part),
-        }
-    } else {
-        TakenOn {
-            closed: None,
-            kept: slot,
-        }
+        let closed = closed_message(slot.take(), seen);
+        *slot = begun_on(own, bus, seen, part, number);
+        return closed;
     }
+    add_on(slot, own.address, bus, seen, part);
+    None
+}
+
+/// Whether an event of this part can close or begin a message.
+fn can_close(seen: &SeenEvent, part: MessagePart) -> bool
+    ensures { result ≡ (seen.now.starts || begins_message part) }
+{
+    seen.starts || part.is_first_command() || part.is_unheard()
 }
 
 /// A command that is not heard, alone.
@@ -321,20 +303,38 @@ impl MessageFold {
         }
     }
 
-    /// Takes an event, and gives the messages that are over with it.
-    pub fn step(&mut self, seen: &SeenEvent) -> ClosedMessages
-        ensures { (ds : List ℕ) → FoldSteps (facts_in seen.now ds) seen.now.is_ignored self.old self.new result }
+    /// Takes an event of this part, and gives the messages that are over with it.
+    fn take(&mut self, seen: &SeenEvent, part: MessagePart) -> ClosedMessages
+        ensures { (ds : List ℕ) → FoldSteps (facts_in seen.now ds) seen.now.is_ignored part self.old self.new result }
     {
-        let part = self.part(seen);
         let (newest, number) = (self.newest, next_number(self.begun));
-        let on_a = take_on(self.a.take(), self.own, Bus::A, seen, part, number);
-        let on_b = take_on(self.b.take(), self.own, Bus::B, seen, part, number);
-        self.a = on_a.kept;
-        self.b = on_b.kept;
+        let on_a = take_on(&mut self.a, self.own, Bus::A, seen, part, number);
+        let on_b = take_on(&mut self.b, self.own, Bus::B, seen, part, number);
         self.newest = newest_after(newest, seen, part);
         self.begun = number_after(part, self.begun);
         let unheard = alone(self.own, seen, part, number);
-        ClosedMessages::in_turn(newest, on_a.closed, on_b.closed, unheard)
+        ClosedMessages::in_turn(newest, on_a, on_b, unheard)
+    }
+
+    /// Takes an event of this part that closes and begins none, as most.
+    fn go_on(&mut self, seen: &SeenEvent, part: MessagePart) -> ClosedMessages
+        ensures { (ds : List ℕ) → (seen.now.starts || begins_message part) ≡ false → FoldSteps (facts_in seen.now ds) seen.now.is_ignored part self.old self.new result }
+    {
+        add_on(&mut self.a, self.own.address, Bus::A, seen, part);
+        add_on(&mut self.b, self.own.address, Bus::B, seen, part);
+        ClosedMessages::in_turn(self.newest, None, None, None)
+    }
+
+    /// Takes an event, and gives the messages that are over with it.
+    pub fn step(&mut self, seen: &SeenEvent) -> ClosedMessages
+        ensures { (ds : List ℕ) → FoldSteps (facts_in seen.now ds) seen.now.is_ignored (part_by seen.now.event (facts_in seen.now ds) seen.now.is_ignored (fold_view self.old)) self.old self.new result }
+    {
+        let part = self.part(seen);
+        if can_close(seen, part) {
+            self.take(seen, part)
+        } else {
+            self.go_on(seen, part)
+        }
     }
 
     /// Gives the messages that are left.
