@@ -5,5 +5,6 @@ pub mod GapLaws
 pub mod WayLaws
 pub mod WatchLaws
 pub mod CameLaws
+pub mod FlagLaws
 mod BeginningLaws
 mod LaterLaws

@@ -12,7 +12,9 @@ use Rattle.bus_legal.specs.Description.{Description}
 use Rattle.bus_terminal.specs.declared.answer.Sent.{Sent}
 use Rattle.terminal_rules.specs.declared.event.Event.{Event}
 use Rattle.terminal_rules.specs.declared.event.Event.TheVariants.{Word, Noise, Gap, Write, Vector, Bit, Flag as FlagIs, Slot}
+use Rattle.terminal_rules.specs.declared.event.Flag.TheVariants.{Service, Busy, Subsystem, Terminal}
 use Rattle.terminal_rules.specs.History.{run}
+use Rattle.terminal_rules.specs.Reply.{reply_now}
 use Rattle.terminal_rules.specs.Open.{Open, Idle, Collects, Waits, Resumes}
 use Rattle.terminal_rules.specs.SinceReset.{off_now}
 use Rattle.terminal_rules.specs.Steps.{replies_on}
@@ -25,7 +27,7 @@ use Rattle.terminal_rules.specs.Past.{past, open_at, history_after}
 use Rattle.terminal_rules.specs.Same.{IsProper, AreProper}
 use Rattle.terminal_rules.specs.Out.{Sending, out, sent_in}
 use Rattle.terminal_recordings.specs.Recordings.{Sighting, is_seen, AreUnseen, HasBits, IsSighting, IsRecording, sightings_from}
-use Rattle.terminal_recordings.specs.Completion.{next_status}
+use Rattle.terminal_recordings.specs.Completion.{data_sent, next_status, flag_shown, flags_set, next_set}
 use Rattle.terminal_recordings.specs.Masks.{MaskedSighting, FitsWord, FitsSighting, FitsMasked}
 use Rattle.terminal_recordings.specs.MaybeGaps.{MaybeSighting, Seen, MaybeGap, gap_on, IsReadingOf, IsExplainedSomehow, IsMaybeRecording, certainly, gap_does_nothing, no_entry, waits, HaveMet, after_seen}
 use Rattle.terminal_recordings.proofs.Told.{summary_quiet, told_quiet, told_proper, sightings_quiet, sightings_more}
@@ -37,9 +39,9 @@ use Rattle.recorded_terminal.specs.declared.watch.Marked.{Marked}
 use Rattle.recorded_terminal.specs.declared.way.Way.{Way}
 use Rattle.recorded_terminal.specs.SentWords.{word_shown}
 use Rattle.recorded_terminal.specs.Sightings.{shown_sighting}
-use Rattle.recorded_terminal.specs.Follows.{told_by, AreTold}
+use Rattle.recorded_terminal.specs.Follows.{told_by, AreTold, ShowTheSame}
 use Rattle.recorded_terminal.specs.Marks.{masked, maybe, maybe_of, maybe_in, most_ways, IsMaybeGapOn, IsSeen}
-use Rattle.recorded_terminal.specs.Ways.{AnyOf, AreQuiet, quiet_with, WayIsAt, told_then, WaySees, EachSees, WayTakesGap, WaysHaveMet, IsWay, Goes, CanGoOn, AnyCanGoOn, AreWays, masked_with}
+use Rattle.recorded_terminal.specs.Ways.{AnyOf, EachBy, AreQuiet, quiet_with, WayIsAt, told_then, WaySees, EachSees, WayTakesGap, WaysHaveMet, IsWay, Goes, CanGoOn, AnyCanGoOn, AreWays, masked_with}
 use Rattle.recorded_terminal.specs.inner.Kept.{KeepTheSame, IsIdleAt}
 use Rattle.recorded_terminal.specs.inner.Steps.{Keeps, SentFirst, LeftOf, AreToldNext, Splits, StepsTo, LeavesNone}
 use Rattle.recorded_terminal.proofs.GapLaws.{room_seen, room_open}
@@ -60,24 +62,24 @@ pub all_join : {X : Type 0} (F : X → Type 0) (xs ys : List X) → AllByRecursi
 all_join F [] ys a b = b
 all_join F (x ∷ xs) ys (f, a) b = (f, all_join F xs ys a b)
 
-all_first : {X : Type 0} (F : X → Type 0) (xs ys : List X) → AllByRecursion F (xs ++ ys) → AllByRecursion F xs
+pub all_first : {X : Type 0} (F : X → Type 0) (xs ys : List X) → AllByRecursion F (xs ++ ys) → AllByRecursion F xs
 all_first F [] ys a = tt
 all_first F (x ∷ xs) ys (f, a) = (f, all_first F xs ys a)
 
-all_last : {X : Type 0} (F : X → Type 0) (xs ys : List X) → AllByRecursion F (xs ++ ys) → AllByRecursion F ys
+pub all_last : {X : Type 0} (F : X → Type 0) (xs ys : List X) → AllByRecursion F (xs ++ ys) → AllByRecursion F ys
 all_last F [] ys a = a
 all_last F (x ∷ xs) ys (f, a) = all_last F xs ys a
 
-any_first : {X : Type 0} (F : X → Type 0) (xs ys : List X) → AnyOf F xs → AnyOf F (xs ++ ys)
+pub any_first : {X : Type 0} (F : X → Type 0) (xs ys : List X) → AnyOf F xs → AnyOf F (xs ++ ys)
 any_first F [] ys x = absurd x
 any_first F (y ∷ xs) ys (inl x) = inl x
 any_first F (y ∷ xs) ys (inr x) = inr (any_first F xs ys x)
 
-any_last : {X : Type 0} (F : X → Type 0) (xs ys : List X) → AnyOf F ys → AnyOf F (xs ++ ys)
+pub any_last : {X : Type 0} (F : X → Type 0) (xs ys : List X) → AnyOf F ys → AnyOf F (xs ++ ys)
 any_last F [] ys x = x
 any_last F (y ∷ xs) ys x = inr (any_last F xs ys x)
 
-any_parts : {X : Type 0} (F : X → Type 0) (xs ys : List X) → AnyOf F (xs ++ ys) → AnyOf F xs ⊎ AnyOf F ys
+pub any_parts : {X : Type 0} (F : X → Type 0) (xs ys : List X) → AnyOf F (xs ++ ys) → AnyOf F xs ⊎ AnyOf F ys
 any_parts F [] ys x = inr x
 any_parts F (y ∷ xs) ys (inl x) = inl (inl x)
 any_parts F (y ∷ xs) ys (inr x) = elim (any_parts F xs ys x) [ inl z ↦ inl (inr z) | inr z ↦ inr z ]
@@ -87,7 +89,7 @@ any_both F G H [] f x a = x
 any_both F G H (y ∷ xs) f (inl x) a = inl (f y x a.0)
 any_both F G H (y ∷ xs) f (inr x) a = inr (any_both F G H xs f x a.1)
 
-one_longer : {X : Type 0} (xs : List X) (x : X) → length (xs ++ x ∷ []) ≡ suc (length xs)
+pub one_longer : {X : Type 0} (xs : List X) (x : X) → length (xs ++ x ∷ []) ≡ suc (length xs)
 one_longer xs x = length-append xs (x ∷ []) ∙ add-one (length xs)
 
 -- ---- readings
@@ -237,17 +239,24 @@ goes_seen : {L : Type 0} (is_legal : L → Cell → Bool) (P : Description) (h :
 goes_seen is_legal P h ms m status w v is sees (k, at, way) left =
     (m.sighting.event ∷ told_then P k status (word_shown m.sighting.sent), sees.stands P k at, way_seen P h ms m status k is (subst (FitsWord m.any_word (word_shown m.sighting.sent)) (sees.sent P k at) (sees.left.0 left)) way)
 
--- the status word that is told is the next
-next_told : (status : Option ℕ) (m : Marked) (more : List MaybeSighting) (later : List Sighting) (x : MaybeSighting) → maybe m ≡ x → AreToldNext status m more later → next_status (certainly (x ∷ more) ++ later) ≡ status
-next_told status m more later x is n = ap (λ y. next_status (certainly (y ∷ more) ++ later)) (sym is) ∙ n.next
+-- by status words that show the same flags the same is told
+then_same : (P : Description) (k : List Event) (one other : Option ℕ) (sent : Option Sending) → ShowTheSame one other → told_then P k one sent ≡ told_then P k other sent
+then_same P k one other sent same = λ j. history_after (flags j ++ next_set (reply_now (past P k)) (data_sent sent)) k
+  where
+    flags : flags_set one ≡ flags_set other
+    flags = λ j. FlagIs Service (same Service j) ∷ FlagIs Busy (same Busy j) ∷ FlagIs Subsystem (same Subsystem j) ∷ FlagIs Terminal (same Terminal j) ∷ []
+
+-- the status word that is told shows what the next does
+next_told : (status : Option ℕ) (m : Marked) (more : List MaybeSighting) (later : List Sighting) (x : MaybeSighting) → maybe m ≡ x → AreToldNext status m more later → ShowTheSame (next_status (certainly (x ∷ more) ++ later)) status
+next_told status m more later x is n = λ f. ap (λ y. flag_shown (next_status (certainly (y ∷ more) ++ later)) f) (sym is) ∙ n.next f
 
 on_seen : {L : Type 0} (is_legal : L → Cell → Bool) (P : Description) → P.address ≤ 30 → (m : Marked) (status : Option ℕ) (more : List MaybeSighting) (later : List Sighting) (w v : Way L) → IsSeen m → WaySees is_legal status m w v → AreToldNext status m more later →
     CanGoOn is_legal P (maybe m ∷ more) w → (v.is_left ≡ true) × CanGoOn is_legal P more v
 on_seen is_legal P low m status more later w v is sees n (k, at, e) =
     let seen = (maybe_law.seen P k (masked m) more later low (mark_is m, n.are_more) n.are_later).0 (subst (λ (x : MaybeSighting). IsExplainedSomehow P k (x ∷ more)) is e) in
     let told = subst
-    (λ (o : Option ℕ). FitsWord m.any_word (word_shown m.sighting.sent) (sent_in (out P (told_then P k o (word_shown m.sighting.sent)) m.sighting.event)) × IsExplainedSomehow P (m.sighting.event ∷ told_then P k o (word_shown m.sighting.sent)) more)
-    (next_told status m more later (Seen (masked m)) is n) seen in
+    (λ (t : List Event). FitsWord m.any_word (word_shown m.sighting.sent) (sent_in (out P t m.sighting.event)) × IsExplainedSomehow P (m.sighting.event ∷ t) more)
+    (then_same P k (next_status (certainly (Seen (masked m) ∷ more) ++ later)) status (word_shown m.sighting.sent) (next_told status m more later (Seen (masked m)) is n)) seen in
     (sees.left.1 (subst (FitsWord m.any_word (word_shown m.sighting.sent)) (sym (sees.sent P k at)) told.0), (m.sighting.event ∷ told_then P k status (word_shown m.sighting.sent), sees.stands P k at, told.1))
 
 -- each of them, with a sighting
@@ -426,7 +435,7 @@ split_both is_legal b status olds all mid news w v c s takes copies first second
   where
     with_gap : (P : Description) (k : List Event) (m : Marked) (more : List MaybeSighting) (later : List Sighting) → IsMaybeGapOn b m → AreToldNext status m more later →
         IsExplainedSomehow P (after_seen P k (gap_on b) (certainly more ++ later)) more → IsExplainedSomehow P (Gap b ∷ told_then P k status None) more
-    with_gap P k m more later is n e = subst (λ (o : Option ℕ). IsExplainedSomehow P (Gap b ∷ told_then P k o None) more) (next_told status m more later (MaybeGap b) is n) e
+    with_gap P k m more later is n e = subst (λ (t : List Event). IsExplainedSomehow P (Gap b ∷ t) more) (then_same P k (next_status (certainly (MaybeGap b ∷ more) ++ later)) status None (next_told status m more later (MaybeGap b) is n)) e
 
 -- all of them pass it
 pub all_split : {L : Type 0} (is_legal : L → Cell → Bool) (b : Bus) (status : Option ℕ) (ws : List (Way L)) → AllByRecursion (λ w. (P : Description) (h : List Event) → WayIsAt is_legal P h w → gap_does_nothing P h b ≡ true) ws → Splits is_legal b status ws ws
@@ -502,33 +511,41 @@ met P h k r s i j q p a = record {
 
 -- ---- ways one after the other
 
--- of the first so many each has seen a sighting, and the others not yet
-abbrev pub SeenBelow : {L : Type 0} → (L → Cell → Bool) → Option ℕ → Marked → ℕ → List (Way L) → List (Way L) → Type 0
-SeenBelow is_legal status m n [] [] = Unit {0}
-SeenBelow is_legal status m zero (w ∷ ws) (v ∷ vs) = (v ≡ w) × SeenBelow is_legal status m zero ws vs
-SeenBelow is_legal status m (suc n) (w ∷ ws) (v ∷ vs) = WaySees is_legal status m w v × SeenBelow is_legal status m n ws vs
-SeenBelow is_legal status m n _ _ = ⊥
+-- the first so many have become others by a step, and those behind them are as they were
+abbrev pub ChangedBelow : {A : Type 0} → (A → A → Type 0) → ℕ → List A → List A → Type 0
+ChangedBelow By n [] [] = Unit {0}
+ChangedBelow By zero (x ∷ xs) (y ∷ ys) = (y ≡ x) × ChangedBelow By zero xs ys
+ChangedBelow By (suc n) (x ∷ xs) (y ∷ ys) = By x y × ChangedBelow By n xs ys
+ChangedBelow By n _ _ = ⊥
 
-pub none_seen : {L : Type 0} (is_legal : L → Cell → Bool) (status : Option ℕ) (m : Marked) (ws : List (Way L)) → SeenBelow is_legal status m 0 ws ws
-none_seen is_legal status m [] = tt
-none_seen is_legal status m (w ∷ ws) = (refl, none_seen is_legal status m ws)
+pub none_changed : {A : Type 0} (By : A → A → Type 0) (xs : List A) → ChangedBelow By 0 xs xs
+none_changed By [] = tt
+none_changed By (x ∷ xs) = (refl, none_changed By xs)
 
-pub one_seen : {L : Type 0} (is_legal : L → Cell → Bool) (status : Option ℕ) (m : Marked) (n : ℕ) (olds news : List (Way L)) (o s : Way L) → n < length news → SeenBelow is_legal status m n olds news → WaySees is_legal status m (get_or news n o) s →
-    SeenBelow is_legal status m (suc n) olds (set news n s)
-one_seen is_legal status m n [] [] o s l b x = absurd (omega (arith, l))
-one_seen is_legal status m n [] (v ∷ vs) o s l b x = absurd b
-one_seen is_legal status m zero (w ∷ ws) [] o s l b x = absurd b
-one_seen is_legal status m (suc n) (w ∷ ws) [] o s l b x = absurd b
-one_seen is_legal status m zero (w ∷ ws) (v ∷ vs) o s l b x = (subst (λ u. WaySees is_legal status m u s) b.0 x, b.1)
-one_seen is_legal status m (suc n) (w ∷ ws) (v ∷ vs) o s l b x = (b.0, one_seen is_legal status m n ws vs o s (omega (arith, l)) b.1 x)
+pub one_changed : {A : Type 0} (By : A → A → Type 0) (n : ℕ) (olds news : List A) (o s : A) → n < length news → ChangedBelow By n olds news → By (get_or news n o) s → ChangedBelow By (suc n) olds (set news n s)
+one_changed By n [] [] o s l b x = absurd (omega (arith, l))
+one_changed By n [] (v ∷ vs) o s l b x = absurd b
+one_changed By zero (w ∷ ws) [] o s l b x = absurd b
+one_changed By (suc n) (w ∷ ws) [] o s l b x = absurd b
+one_changed By zero (w ∷ ws) (v ∷ vs) o s l b x = (subst (λ u. By u s) b.0 x, b.1)
+one_changed By (suc n) (w ∷ ws) (v ∷ vs) o s l b x = (b.0, one_changed By n ws vs o s (omega (arith, l)) b.1 x)
 
-pub all_seen : {L : Type 0} (is_legal : L → Cell → Bool) (status : Option ℕ) (m : Marked) (n : ℕ) (olds news : List (Way L)) → length news ≤ n → SeenBelow is_legal status m n olds news → EachSees is_legal status m olds news
-all_seen is_legal status m n [] [] l b = tt
-all_seen is_legal status m n [] (v ∷ vs) l b = absurd b
-all_seen is_legal status m zero (w ∷ ws) [] l b = absurd b
-all_seen is_legal status m (suc n) (w ∷ ws) [] l b = absurd b
-all_seen is_legal status m zero (w ∷ ws) (v ∷ vs) l b = absurd (omega (arith, l))
-all_seen is_legal status m (suc n) (w ∷ ws) (v ∷ vs) l b = (b.0, all_seen is_legal status m n ws vs (omega (arith, l)) b.1)
+pub all_changed : {A : Type 0} (By : A → A → Type 0) (n : ℕ) (olds news : List A) → length news ≤ n → ChangedBelow By n olds news → EachBy By olds news
+all_changed By n [] [] l b = tt
+all_changed By n [] (v ∷ vs) l b = absurd b
+all_changed By zero (w ∷ ws) [] l b = absurd b
+all_changed By (suc n) (w ∷ ws) [] l b = absurd b
+all_changed By zero (w ∷ ws) (v ∷ vs) l b = absurd (omega (arith, l))
+all_changed By (suc n) (w ∷ ws) (v ∷ vs) l b = (b.0, all_changed By n ws vs (omega (arith, l)) b.1)
+
+-- what holds of all holds of the next
+pub next_unchanged : {A : Type 0} (By : A → A → Type 0) (F : A → Type 0) (n : ℕ) (olds news : List A) (o : A) → n < length news → ChangedBelow By n olds news → AllByRecursion F olds → F (get_or news n o)
+next_unchanged By F n [] [] o l b x = absurd (omega (arith, l))
+next_unchanged By F n [] (v ∷ vs) o l b x = absurd b
+next_unchanged By F zero (w ∷ ws) [] o l b x = absurd b
+next_unchanged By F (suc n) (w ∷ ws) [] o l b x = absurd b
+next_unchanged By F zero (w ∷ ws) (v ∷ vs) o l b x = subst F (sym b.0) x.0
+next_unchanged By F (suc n) (w ∷ ws) (v ∷ vs) o l b x = next_unchanged By F n ws vs o (omega (arith, l)) b.1 x.1
 
 pub any_here : {X : Type 0} (F : X → Type 0) (xs : List X) (n : ℕ) (x : X) → drop n xs ≡ x ∷ drop (suc n) xs → F x → AnyOf F xs
 any_here F [] zero x e f = absurd (cc)

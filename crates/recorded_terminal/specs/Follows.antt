@@ -1,10 +1,11 @@
 -- When a terminal that follows a recording stands at a history, and what it is told before a sighting.
-use Rattle.std.specs.Prelude.{ℕ, Bool, Option, Some, None, List, [], ◌∷◌, ◌++◌}
+use Rattle.std.specs.Prelude.{◌≡◌, ℕ, Bool, Option, Some, None, List, [], ◌∷◌, ◌++◌}
 use Rattle.bus_word.specs.declared.cell.Cell.{Cell}
 use Rattle.bus_legal.specs.Description.{Description}
 use Rattle.bus_terminal.specs.Stands.{StandsAt}
 use Rattle.bus_terminal.specs.declared.terminal.Terminal.{Terminal}
 use Rattle.terminal_rules.specs.declared.event.Event.{Event}
+use Rattle.terminal_rules.specs.declared.event.Flag.{Flag}
 use Rattle.terminal_rules.specs.Out.{Sending}
 use Rattle.terminal_rules.specs.Past.{past, history_after}
 use Rattle.terminal_rules.specs.Reply.{reply_now}
@@ -12,7 +13,7 @@ use Rattle.terminal_rules.specs.Same.{AreProper}
 use Rattle.terminal_recordings.specs.Recordings.{AreUnseen}
 use Rattle.terminal_recordings.specs.Later.{ShutDown}
 use Rattle.terminal_state.specs.declared.buses.OnBuses.{OnBuses}
-use Rattle.terminal_recordings.specs.Completion.{data_sent, flags_set, next_set}
+use Rattle.terminal_recordings.specs.Completion.{data_sent, flag_shown, flags_set, next_set}
 use Rattle.recorded_terminal.specs.declared.follower.Follower.{Follower}
 use Rattle.recorded_terminal.specs.declared.follower.Told.{Told}
 
@@ -28,6 +29,10 @@ told_by P h status sent = flags_set status ++ next_set (reply_now (past P h)) (d
 abbrev pub given_events : Option Event → List Event
 given_events None = []
 given_events (Some e) = e ∷ []
+
+-- two status words show the same flags, where none shows none
+abbrev pub ShowTheSame : Option ℕ → Option ℕ → Type 0
+ShowTheSame one other = (f : Flag) → flag_shown one f ≡ flag_shown other f
 
 -- the events that are told before a sighting
 abbrev pub told_events : Told → List Event

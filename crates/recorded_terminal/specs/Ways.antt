@@ -50,10 +50,14 @@ pub record WaySees {L : Type 0} (is_legal : L → Cell → Bool) (status : Optio
   pub sent : (P : Description) (h : List Event) → WayIsAt is_legal P h old → word_shown new.sent ≡ sent_in (out P (told_then P h status (word_shown m.sighting.sent)) m.sighting.event)
   pub left : IsTrue new.is_left ↔ FitsWord m.any_word (word_shown m.sighting.sent) (word_shown new.sent)
 
+-- each of one list and that at the same place in another
+abbrev pub EachBy : {A : Type 0} → (A → A → Type 0) → List A → List A → Type 0
+EachBy By [] [] = Unit {0}
+EachBy By (x ∷ xs) (y ∷ ys) = By x y × EachBy By xs ys
+EachBy By _ _ = ⊥
+
 abbrev pub EachSees : {L : Type 0} → (L → Cell → Bool) → Option ℕ → Marked → List (Way L) → List (Way L) → Type 0
-EachSees is_legal status m [] [] = Unit {0}
-EachSees is_legal status m (w ∷ ws) (v ∷ vs) = WaySees is_legal status m w v × EachSees is_legal status m ws vs
-EachSees is_legal status m _ _ = ⊥
+EachSees is_legal status m olds news = EachBy (WaySees is_legal status m) olds news
 
 -- wherever the first stands, the second stands after a gap on this bus
 abbrev pub WayTakesGap : {L : Type 0} → (L → Cell → Bool) → Bus → Option ℕ → Way L → Way L → Type 0

@@ -2,6 +2,7 @@
 #![tactic(auto)]
 
 mod beginnings;
+mod flag_ways;
 mod follower;
 mod later;
 mod sighting;

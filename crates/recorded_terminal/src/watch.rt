@@ -15,6 +15,7 @@ ghost use Rattle.recorded_terminal.specs.inner.Followed.{Followed};
 ghost use Rattle.recorded_terminal.specs.Ways.{AreWays};
 ghost use Rattle.recorded_terminal.specs.declared.watch.WatchFault.TheVariants.{Memory, TooManyWays};
 
+use crate::flag_ways::{FlagWays, follow_by_flags, part_by_flags, settle};
 use crate::follower::Follower;
 use crate::sighting::Sighting;
 use crate::told::shown_status;
@@ -25,6 +26,9 @@ use bus_terminal::Sent;
 use bus_word::Kind;
 use std::alloc::{AllocError, AllocFailed, Global};
 use terminal_state::OnBuses;
+
+/// So many sightings wait for a status word at most; then the ways for all flags are followed.
+const MOST_WAITING: usize = 16_384;
 
 /// A sighting, and where it stands in a recording.
 #[derive(Clone, Copy)]
@@ -115,7 +119,7 @@ fn status_in(marked: &Marked) -> Option<u16>
 
 /// Follows sightings on each way, before which so many were followed, where `status` is the next status word that is seen, in each of them
 /// or later. Gives the first for which no way is left.
-fn follow<L: Legality + Copy + Drop>(
+pub fn follow<L: Legality + Copy + Drop>(
     alloc: Global,
     ways: &mut Vec<Way<L>>,
     followed: u64,
@@ -138,11 +142,14 @@ fn follow<L: Legality + Copy + Drop>(
 }
 
 /// Watches a recording for the first sighting that no behaviour of the subsystem explains. It keeps the sightings behind the last status
-/// word that was seen, since the next one tells which flags the subsystem has there.
+/// word that was seen, since the next one tells which flags the subsystem has there; where they are many, the ways for all flags.
 #[derive(Drop)]
 pub struct Watch<L> {
     alloc: Global,
+    /// The ways up to the last status word.
     ways: Vec<Way<L>>,
+    /// The same ways, followed further for all flags that the next status word can show; none where few sightings came since.
+    by_flags: Vec<FlagWays<L>>,
     /// How many sightings were followed; then come those that wait.
     followed: u64,
     waiting: Vec<Marked>,
@@ -178,6 +185,7 @@ impl<L: Legality + Copy + Drop> Watch<L> {
         Ok(Watch {
             alloc,
             ways,
+            by_flags: Vec::new(alloc),
             followed: 0,
             waiting: Vec::new(alloc),
             first: None,
@@ -199,6 +207,7 @@ impl<L: Legality + Copy + Drop> Watch<L> {
             return Err(WatchFault::Memory);
         };
         if status.is_some() {
+            settle(&mut self.ways, &mut self.by_flags, status);
             self.first = follow(
                 self.alloc,
                 &mut self.ways,
@@ -206,9 +215,19 @@ impl<L: Legality + Copy + Drop> Watch<L> {
                 self.waiting.as_slice(),
                 status,
             )?;
-            self.followed = seen;
-            self.waiting.clear();
+        } else if self.waiting.len() >= MOST_WAITING {
+            part_by_flags(self.alloc, self.ways.as_slice(), &mut self.by_flags)?;
+            self.first = follow_by_flags(
+                self.alloc,
+                &mut self.by_flags,
+                self.followed,
+                self.waiting.as_slice(),
+            )?;
+        } else {
+            return Ok(());
         }
+        self.followed = seen;
+        self.waiting.clear();
         Ok(())
     }
 
@@ -221,13 +240,15 @@ impl<L: Legality + Copy + Drop> Watch<L> {
         let Watch {
             alloc,
             mut ways,
+            mut by_flags,
             followed,
             waiting,
             first,
         } = self;
-        match first {
-            Some(first) => Ok(Some(first)),
-            None => follow(alloc, &mut ways, followed, waiting.as_slice(), None),
+        if first.is_some() {
+            return Ok(first);
         }
+        settle(&mut ways, &mut by_flags, None);
+        follow(alloc, &mut ways, followed, waiting.as_slice(), None)
     }
 }

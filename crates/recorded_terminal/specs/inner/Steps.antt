@@ -12,6 +12,7 @@ use Rattle.terminal_recordings.specs.MaybeGaps.{MaybeSighting, Seen, MaybeGap, I
 use Rattle.recorded_terminal.specs.declared.watch.Marked.{Marked}
 use Rattle.recorded_terminal.specs.declared.way.Way.{Way}
 use Rattle.recorded_terminal.specs.declared.ways.Instead.{Instead}
+use Rattle.recorded_terminal.specs.Follows.{ShowTheSame}
 use Rattle.recorded_terminal.specs.Marks.{maybe, maybe_in, most_ways, IsMaybeGapOn}
 use Rattle.recorded_terminal.specs.Ways.{AnyOf, WaysHaveMet, Goes, CanGoOn, AnyCanGoOn, AreWays, masked_with}
 
@@ -30,11 +31,17 @@ pub record LeftOf {L : Type 0} (is_legal : L → Cell → Bool) (olds news : Lis
   pub goes_on : (P : Description) (more : List MaybeSighting) → AnyOf (λ w. (w.is_left ≡ true) × CanGoOn is_legal P more w) olds → AnyCanGoOn is_legal P more news
   pub few : length news ≤ length olds
 
--- a sighting is followed by others, and by more behind them, of which this is the next status word
+-- the second stand where the first do
+pub record AreCopies {L : Type 0} (is_legal : L → Cell → Bool) (olds news : List (Way L)) : Type 0 where
+  pub goes : (P : Description) (h : List Event) (ms : List Marked) → AllByRecursion (Goes is_legal P h ms) olds → AllByRecursion (Goes is_legal P h ms) news
+  pub goes_on : (P : Description) (more : List MaybeSighting) → AnyCanGoOn is_legal P more olds → AnyCanGoOn is_legal P more news
+  pub long : length news ≡ length olds
+
+-- a sighting is followed by others, and by more behind them, and the next status word shows what this shows
 pub record AreToldNext (status : Option ℕ) (m : Marked) (more : List MaybeSighting) (later : List Sighting) : Type 0 where
   pub are_more : IsMaybeRecording more
   pub are_later : IsRecording later
-  pub next : next_status (certainly (maybe m ∷ more) ++ later) ≡ status
+  pub next : ShowTheSame (next_status (certainly (maybe m ∷ more) ++ later)) status
 
 -- a gap on this bus may have come or not
 pub record Splits {L : Type 0} (is_legal : L → Cell → Bool) (b : Bus) (status : Option ℕ) (olds news : List (Way L)) : Type 0 where
