@@ -21,7 +21,7 @@ use Rattle.recorded_terminal.specs.Marks.{seen_in}
 use Rattle.recorded_terminal.specs.Ways.{AnyOf, EachBy, AreWays, WayIsAt, Goes, CanGoOn}
 use Rattle.recorded_terminal.specs.Watched.{IsUnexplainedAt, LeadOn, LeadOnBy, LeadOnByFlags}
 use Rattle.recorded_terminal.specs.inner.Steps.{AreCopies}
-use Rattle.recorded_terminal.specs.inner.Followed.{AreBefore, AreFollowed, EndsAt}
+use Rattle.recorded_terminal.specs.inner.Followed.{AreFollowed, EndsAt}
 use Rattle.recorded_terminal.proofs.WayLaws.{all_first, all_last, all_join, any_first, any_last, any_parts, one_longer, cut_of, take_more}
 use Rattle.recorded_terminal.proofs.WatchLaws.{before_later, leads_waiting, leads_same, leads_copies, found_in}
 

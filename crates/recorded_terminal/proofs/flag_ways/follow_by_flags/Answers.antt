@@ -1,5 +1,4 @@
-use Rattle.std.proofs.Common.{◌≡◌, ◌∙◌, ◌<◌, Some, None, length, get_or, set, arith, refl, add-one, sym, subst}
-use Rattle.std.specs.List.{AllByRecursion}
+use Rattle.std.proofs.Common.{◌≡◌, ◌∙◌, ◌<◌, Some, length, get_or, set, arith, refl, add-one, sym, subst}
 use Rattle.std.proofs.lemmas.Result.{err_from_is_err_and}
 use Rattle.recorded_terminal.specs.declared.flag_ways.FlagWays.{FlagWays}
 use Rattle.recorded_terminal.specs.Watched.{LeadOn, LeadOnByFlags}

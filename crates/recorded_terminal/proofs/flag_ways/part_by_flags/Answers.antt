@@ -1,5 +1,4 @@
-use Rattle.std.proofs.Common.{◌≡◌, ◌∙◌, [], take, get_or, sym, subst, take_all, rules}
-use Rattle.recorded_terminal.specs.declared.flag_ways.FlagWays.{FlagWays}
+use Rattle.std.proofs.Common.{[], take, get_or, sym, subst, take_all, rules}
 use Rattle.recorded_terminal.specs.Watched.{LeadOnBy}
 use Rattle.recorded_terminal.proofs.WayLaws.{empty_of, not_empty}
 use Rattle.recorded_terminal.proofs.FlagLaws.{status_words, ArePartedBy, none_parted, one_parted, all_parted, word_more, are_parted}

@@ -1,8 +1,5 @@
-use Rattle.std.proofs.Common.{◌∙◌, ◌++◌, ◌∷◌, [], List, refl, sym, subst, rules}
+use Rattle.std.proofs.Common.{◌∙◌, ◌++◌, ◌∷◌, [], refl, sym, subst, rules}
 use Rattle.std.proofs.lemmas.Result.{err_from_is_err_and}
-use Rattle.bus_legal.specs.Description.{Description}
-use Rattle.terminal_rules.specs.declared.event.Event.{Event}
-use Rattle.recorded_terminal.specs.declared.watch.Marked.{Marked}
 use Rattle.recorded_terminal.specs.declared.watch.Watch.{Watch}
 use Rattle.recorded_terminal.specs.Watched.{IsFollowing, LeadOnBy, WatchesBy}
 use Rattle.recorded_terminal.proofs.WatchLaws.{found_stays, waits_on, sees_status, sees_many, follows_still, many_waiting}
