@@ -1,8 +1,5 @@
 -- What can't be reached changes nothing of what comes of messages.
-use Rattle.std.proofs.Common.{◌≡◌, ◌≤◌, ◌&&◌, ◌∙◌, cond, is_some, None, List, [], ◌∷◌, ◌++◌, refl, ap, subst}
-use Rattle.std.specs.Option.{option_or}
-use Rattle.bus_word.specs.declared.word.Bus.{Bus}
-use Rattle.bus_word.specs.declared.word.Bus.TheVariants.{A, B}
+use Rattle.std.proofs.Common.{◌≡◌, ◌≤◌, suc, ◌&&◌, ◌∙◌, cond, if◌then◌else◌, List, [], ◌∷◌, ◌++◌, length, map, refl, ap, subst}
 use Rattle.bus_word.proofs.Places.{place_above, place_count, place_from}
 use Rattle.bus_legal.specs.declared.setup.Setup.{Setup}
 use Rattle.bus_legal.specs.Description.{Description, described}
@@ -12,14 +9,22 @@ use Rattle.bus_legal.specs.Tables.{tables_say}
 use Rattle.bus_legal.proofs.Descriptions.{initial-reach, wrap-reach}
 use Rattle.bus_legal.proofs.NormalLaws.{set_up_normal}
 use Rattle.terminal_rules.specs.declared.event.Event.{Event}
-use Rattle.terminal_rules.specs.History.{Noted, Ending, Nothing}
-use Rattle.terminal_rules.specs.Ends.{ends_now}
-use Rattle.terminal_rules.specs.Open.{open_now}
-use Rattle.terminal_rules.specs.Past.{past, history_after}
+use Rattle.terminal_rules.specs.History.{Noted}
+use Rattle.terminal_rules.specs.Out.{Out}
+use Rattle.terminal_rules.specs.Past.{note, past, history_after}
+use Rattle.terminal_rules.specs.Reply.{reply_now, reply_bus}
 use Rattle.terminal_rules.proofs.Reach.Agrees.{Agrees}
 use Rattle.terminal_rules.proofs.Reach.Past.{past_alike}
-use Rattle.recording_coverage.specs.declared.outcome.MessageOutcome.TheVariants.{Superseded, Open}
-use Rattle.recording_coverage.specs.Endings.{command_of_state, command_on, came_so, end_of_message, superseded, open_end, end_with, ends_from, ends_of}
+use Rattle.terminal_rules.proofs.Reach.Same.{out-reach}
+use Rattle.bus_terminal.specs.Waiting.{is_engaged}
+use Rattle.terminal_messages.specs.declared.ending.MessageEnding.TheVariants.{Open}
+use Rattle.terminal_messages.specs.Told.{ToldEvent, event_bus, begins_message, begun_in}
+use Rattle.terminal_messages.specs.Message.{Message}
+use Rattle.terminal_messages.specs.Parts.{tell, part_now, awaits_on, command_begun, second_of}
+use Rattle.terminal_messages.specs.Messages.{messages_of, closed, still_open}
+use Rattle.terminal_messages.specs.Ends.{end_so_far, end_after, end_closed, with_gap_within, shows_gap_within, cause_of}
+use Rattle.recording_coverage.specs.declared.outcome.MessageEnd.{MessageEnd}
+use Rattle.recording_coverage.specs.Endings.{terminal_command, counted_end, ends_of}
 
 -- what can be reached agrees where it can be asked for
 reached_agrees : (P : Description) → Agrees P (reach P)
@@ -32,34 +37,44 @@ reached_agrees P = record {
   wrap = λ s m n received place sent place_of_it. wrap-reach P s m n (place_above s m place) received (place_from s m place) (place_count s m place) sent (place_from s n place_of_it) (place_count s n place_of_it);
 }
 
--- how the latest event ended a message
-abbrev last_end : List Noted → Ending
-last_end [] = Nothing
-last_end (n ∷ h) = n.ends
+-- an event as it is told, by what it did and by the answer
+abbrev told_by : Description → List Noted → Noted → Out → List ToldEvent → Event → ToldEvent
+told_by P ns n answer h e = record {
+  index = length h;
+  noted = n;
+  answer = answer;
+  awaits = awaits_on P ns (event_bus e);
+  replied = reply_bus (reply_now ns);
+  engaged = is_engaged P (n ∷ ns);
+  part = part_now P ns n h e;
+  begun = if begins_message (part_now P ns n h e) then suc (begun_in h) else begun_in h;
+}
 
-ends-reach : (P : Description) (h : List Event) (e : Event) → P.address ≤ 30 → ends_now (reach P) (past (reach P) h) e ≡ ends_now P (past P h) e
-ends-reach P h e low = ap last_end (past_alike P (reach P) (reached_agrees P) low (e ∷ h))
+-- the latest event, of a history that has one
+abbrev latest_noted : Noted → List Noted → Noted
+latest_noted n [] = n
+latest_noted n (m ∷ ms) = m
 
--- the message in progress, of which the address alone is asked
-command-reach : (P : Description) (h : List Event) (b : Bus) → P.address ≤ 30 → command_on (reach P) h b ≡ command_on P h b
-command-reach P h b low = ap (λ k. command_of_state (open_now P k b)) (past_alike P (reach P) (reached_agrees P) low h)
+tell-reach : (P : Description) (h : List Event) → P.address ≤ 30 → tell (reach P) h ≡ tell P h
+tell-reach P [] low = refl
+tell-reach P (e ∷ h) low = λ j.
+    told_by P (past_alike P (reach P) (reached_agrees P) low h j) (latest_noted (note P (past P h) e) (past_alike P (reach P) (reached_agrees P) low (e ∷ h) j)) (out-reach P h e low j) (tell-reach P h low j) e
+    ∷ tell-reach P h low j
 
-superseded-reach : (P : Description) (h : List Event) (e : Event) → P.address ≤ 30 → superseded (reach P) h e ≡ superseded P h e
-superseded-reach P h e low = λ j.
-    option_or (cond (is_some (command-reach P (e ∷ h) B low j)) (command-reach P h A low j) None) (cond (is_some (command-reach P (e ∷ h) A low j)) (command-reach P h B low j) None)
+messages-reach : (P : Description) (es : List Event) → P.address ≤ 30 → messages_of (reach P) es ≡ messages_of P es
+messages-reach P es low = ap (λ h. closed h ++ still_open h) (tell-reach P (history_after es []) low)
 
-end-reach : (P : Description) (h : List Event) (e : Event) → P.address ≤ 30 → end_with (reach P) h e ≡ end_with P h e
-end-reach P h e low = λ j. option_or (end_of_message (ends-reach P h e low j)) (came_so Superseded (superseded-reach P h e low j))
+-- of what can be reached the address and the broadcast option alone are asked
+so_far-reach : (P : Description) (first : ToldEvent) (later : List ToldEvent) → end_so_far (reach P) first later ≡ end_so_far P first later
+so_far-reach P first [] = refl
+so_far-reach P first (t ∷ ts) =
+    ap (λ x. end_after (if t.noted.starts then Open else with_gap_within (shows_gap_within P first t ts) x) (cause_of t ts) t.noted.ends) (so_far-reach P first ts)
 
-ends_from-reach : (P : Description) (h es : List Event) → P.address ≤ 30 → ends_from (reach P) h es ≡ ends_from P h es
-ends_from-reach P h [] low = refl
-ends_from-reach P h (e ∷ es) low = λ j. end-reach P h e low j ∷ ends_from-reach P (e ∷ h) es low j
-
-open-reach : (P : Description) (h : List Event) → P.address ≤ 30 → open_end (reach P) h ≡ open_end P h
-open-reach P h low = λ j. came_so Open (option_or (command-reach P h A low j) (command-reach P h B low j))
+end-reach : (P : Description) (m : Message) → counted_end (reach P) m ≡ counted_end P m
+end-reach P m = λ j. record { command = terminal_command P.address (command_begun m) (second_of m); ending = end_closed m.bus m.closer (so_far-reach P m.first m.later j) }
 
 pub ends-of-reach : (P : Description) (es : List Event) → P.address ≤ 30 → ends_of (reach P) es ≡ ends_of P es
-ends-of-reach P es low = λ j. ends_from-reach P [] es low j ++ open-reach P (history_after es []) low j ∷ []
+ends-of-reach P es low = λ j. map (λ m. end-reach P m j) (messages-reach P es low j)
 
 -- of a terminal that is set up by what can be reached of a description
 pub endings_alike : (v : Parts) (setup : Setup) (P : Description) (es : List Event) → IsNormal v → parts_of setup v.tables ≡ v → description_in v ≡ reach P → ends_of (described setup (tables_say v.tables)) es ≡ ends_of P es

@@ -13,11 +13,11 @@ use Rattle.recording_coverage.specs.Endings.{counts_of}
 use Rattle.recording_coverage.specs.Messages.{is_same_message, has_this_cell, all_cells}
 
 -- how often the messages of a cell came to each outcome
-abbrev pub covered_in : List (Option MessageEnd) → Cell → CoveredMessage
+abbrev pub covered_in : List MessageEnd → Cell → CoveredMessage
 covered_in ends cell = record { cell = cell; counts = counts_of (has_this_cell cell) ends }
 
 -- the same of all legal cells
-abbrev pub covered : Description → List (Option MessageEnd) → List CoveredMessage
+abbrev pub covered : Description → List MessageEnd → List CoveredMessage
 covered P ends = map (covered_in ends) (filter P.legal all_cells)
 
 -- the command is legal by its cell
@@ -38,17 +38,17 @@ unfoldable pub commands_by_number : ℕ → ℕ → ℕ → List ℕ
 commands_by_number address n k = map (command_at address) (range_with_len n k)
 
 -- An illegal command whose message came. Of a mode code one command is told, that of subaddress 0.
-abbrev pub is_tried : Description → List (Option MessageEnd) → ℕ → Bool
+abbrev pub is_tried : Description → List MessageEnd → ℕ → Bool
 is_tried P ends c = (not (subaddress_of c == 31) && not (has_legal_cell P.legal (cell_of c))) && not (are_none (counts_of (is_same_message c) ends))
 
 -- how often its message came to each outcome
-abbrev pub tried_in : List (Option MessageEnd) → ℕ → IllegalMessage
+abbrev pub tried_in : List MessageEnd → ℕ → IllegalMessage
 tried_in ends c = record { command = c; counts = counts_of (is_same_message c) ends }
 
 -- the same of all illegal commands that came, of a list
-abbrev pub tried_of : Description → List (Option MessageEnd) → List ℕ → List IllegalMessage
+abbrev pub tried_of : Description → List MessageEnd → List ℕ → List IllegalMessage
 tried_of P ends cs = map (tried_in ends) (filter (is_tried P ends) cs)
 
 -- of all commands
-abbrev pub tried_illegal : Description → List (Option MessageEnd) → List IllegalMessage
+abbrev pub tried_illegal : Description → List MessageEnd → List IllegalMessage
 tried_illegal P ends = tried_of P ends (commands_by_number P.address 0 4096)

@@ -1,90 +1,69 @@
 //! The messages of some events, counted.
-ghost use Rattle.std.specs.Prelude.{◌≡◌, ◌∷◌, List, Option, None, is_some, if◌then◌else◌, ◌++◌};
+ghost use Rattle.std.specs.Prelude.{◌≡◌, ◌++◌, ℕ, List};
 ghost use Rattle.bus_legal.specs.Description.{Description, described};
 ghost use Rattle.terminal_rules.specs.declared.event.Event.{Event};
 ghost use Rattle.terminal_rules.specs.Past.{history_after};
-ghost use Rattle.terminal_state.specs.Message.{standing_on};
-ghost use Rattle.bus_terminal.specs.Stands.{StandsAt};
+ghost use Rattle.terminal_messages.specs.View.{view_listed};
+ghost use Rattle.terminal_messages.specs.Shown.{shown_slot};
+ghost use Rattle.terminal_messages.specs.Fold.{shown_closed};
+ghost use Rattle.terminal_messages.specs.Watch.{WatchStands};
 ghost use Rattle.recording_coverage.specs.declared.outcome.MessageEnd.{MessageEnd};
-ghost use Rattle.recording_coverage.specs.Endings.{command_of_state, command_on, open_end, end_with, ends_from, ends_of};
+ghost use Rattle.recording_coverage.specs.Endings.{ends_of};
 ghost use Rattle.recording_coverage.specs.Covers.{Covers};
+ghost use Rattle.recording_coverage.specs.inner.Counted.{ends_told, ends_over};
 
 use crate::coverage::Coverage;
-use crate::outcome::{MessageEnd, MessageOutcome, came_so, end_of_message};
+use crate::outcome::counted_end;
 use bus_legal::{Legality, Setup};
-use bus_terminal::{Event, Terminal};
-use bus_word::{Bus, Command};
-use terminal_state::{InProgress, same_bus};
+use bus_terminal::Event;
+use terminal_messages::{ClosedMessages, KeptMessage, MessageWatch};
 
-/// The command of the message in progress, where it is on this bus.
-fn command_of_state(in_progress: &InProgress, bus: Bus) -> Option<Command>
-    ensures { result ≡ command_of_state (standing_on bus in_progress.now) }
+/// Counts a message for the terminal of this address, if there is one.
+fn count_message(coverage: &mut Coverage, own: u8, message: &Option<KeptMessage>)
+    ensures { (ends : List MessageEnd) → Covers ends coverage.old → Covers (ends ++ ends_told own (view_listed (shown_slot message.now))) coverage.new }
 {
-    match &in_progress.message {
-        Some(message) if same_bus(bus, message.bus) => Some(message.decoded.command),
-        _ => None,
+    if let Some(message) = message {
+        coverage.note(counted_end(own, &message.state));
     }
 }
 
-/// The command of the message in progress on a bus.
-fn command_on<L: Legality>(terminal: &Terminal<L>, bus: Bus) -> Option<Command>
-    ensures { (P : Description) (h : List Event) → StandsAt L.is_legal P h terminal.now → result ≡ command_on P h bus }
+/// Counts messages that are over.
+fn count_closed(coverage: &mut Coverage, own: u8, closed: &ClosedMessages)
+    ensures { (ends : List MessageEnd) → Covers ends coverage.old → Covers (ends ++ ends_told own (shown_closed closed.now)) coverage.new }
 {
-    command_of_state(terminal.kept().in_progress, bus)
+    count_message(coverage, own, &closed.first);
+    count_message(coverage, own, &closed.second);
+    count_message(coverage, own, &closed.unheard);
 }
 
-/// The command of the message in progress before an event, where one on the other bus is in progress after it.
-fn superseded_by(before: Option<Command>, other: Option<Command>) -> Option<Command>
-    ensures { result ≡ (if is_some other then before else None) }
-{
-    if other.is_some() { before } else { None }
-}
-
-/// Has a terminal take an event, and gives the message that is over with it, and what came of that.
-fn take_event<L: Legality>(terminal: &mut Terminal<L>, event: &Event) -> Option<MessageEnd>
-    ensures end { (P : Description) (h : List Event) → StandsAt L.is_legal P h terminal.old → result ≡ end_with P h event.now }
-    ensures stands { (P : Description) (h : List Event) → StandsAt L.is_legal P h terminal.old → StandsAt L.is_legal P (event.now ∷ h) terminal.new }
-{
-    let end = end_of_message(terminal.ending(*event));
-    let (a, b) = (command_on(terminal, Bus::A), command_on(terminal, Bus::B));
-    terminal.take(*event);
-    let on_a = superseded_by(a, command_on(terminal, Bus::B));
-    let on_b = superseded_by(b, command_on(terminal, Bus::A));
-    end.or(came_so(MessageOutcome::Superseded, on_a.or(on_b)))
-}
-
-/// The message that is still in progress.
-fn open_end<L: Legality>(terminal: &Terminal<L>) -> Option<MessageEnd>
-    ensures { (P : Description) (h : List Event) → StandsAt L.is_legal P h terminal.now → result ≡ open_end P h }
-{
-    let (a, b) = (command_on(terminal, Bus::A), command_on(terminal, Bus::B));
-    came_so(MessageOutcome::Open, a.or(b))
-}
-
-/// Counts what comes of the messages that are over with these events, which the terminal takes, beside what was counted before.
-pub fn count_from<L: Legality>(
+/// Plays these events to the terminal of this address, and counts the messages that are over with them, beside those that were over before.
+fn count_from<L: Legality>(
     coverage: &mut Coverage,
-    terminal: &mut Terminal<L>,
+    own: u8,
+    watch: &mut MessageWatch<L>,
     events: &[Event],
 )
-    ensures counts { (P : Description) (h : List Event) (ends : List (Option MessageEnd)) → StandsAt L.is_legal P h terminal.old → Covers ends coverage.old → Covers (ends ++ ends_from P h events.now) coverage.new }
-    ensures stands { (P : Description) (h : List Event) → StandsAt L.is_legal P h terminal.old → StandsAt L.is_legal P (history_after events.now h) terminal.new }
+    ensures counts { (P : Description) (h : List Event) (ends : List MessageEnd) → own ≡ P.address → WatchStands L.is_legal P (λ _. 0) h watch.old → Covers (ends ++ ends_over P h) coverage.old → Covers (ends ++ ends_over P (history_after events.now h)) coverage.new }
+    ensures stands { (P : Description) (h : List Event) → WatchStands L.is_legal P (λ _. 0) h watch.old → WatchStands L.is_legal P (λ _. 0) (history_after events.now h) watch.new }
 {
     for event in events {
-        coverage.note(take_event(terminal, event));
+        let closed = watch.step(*event, 0);
+        count_closed(coverage, own, &closed);
     }
 }
 
-/// Counts what comes of each message that these events begin, of a terminal from power-up.
+/// Counts the messages of these events, of a terminal from power-up, beside what was counted before.
 pub fn count<L: Legality + Drop>(
     coverage: &mut Coverage,
     setup: Setup,
     legality: L,
     events: &[Event],
 )
-    ensures { (ends : List (Option MessageEnd)) → Covers ends coverage.old → Covers (ends ++ ends_of (described setup (L.is_legal legality)) events.now) coverage.new }
+    ensures { (ends : List MessageEnd) → Covers ends coverage.old → Covers (ends ++ ends_of (described setup (L.is_legal legality)) events.now) coverage.new }
 {
-    let mut terminal = Terminal::power_up(setup, legality);
-    count_from(coverage, &mut terminal, events);
-    coverage.note(open_end(&terminal));
+    let own = setup.address;
+    let mut watch = MessageWatch::power_up(setup, legality);
+    count_from(coverage, own, &mut watch, events);
+    let left = watch.end();
+    count_closed(coverage, own, &left);
 }

@@ -4,9 +4,10 @@ ghost use Rattle.bus_word.specs.Mode.{mode_row};
 ghost use Rattle.recording_coverage.specs.Messages.{message_number};
 ghost use Rattle.recording_coverage.specs.inner.CellNumbers.{row_transmits, number_by, number_of_cell};
 
-use crate::outcome::{MessageEnd, MessageOutcome, OutcomeCounts, with_one};
+use crate::outcome::{MessageEnd, OutcomeCounts, with_one};
 use bus_word::{Cell, Command, is_allowed, mode_row};
 use std::alloc::{AllocError, Global};
+use terminal_messages::MessageEnding;
 
 /// How many messages have a number.
 const MESSAGES: usize = 4096;
@@ -79,7 +80,7 @@ pub struct Coverage {
 }
 
 impl Coverage {
-    ghost use Rattle.std.specs.Prelude.{[], List, Option, ◌++◌, ◌∷◌, get_or, set, cond, IfOk};
+    ghost use Rattle.std.specs.Prelude.{[], List, ◌++◌, ◌∷◌, get_or, set, cond, IfOk};
     ghost use Rattle.recording_coverage.specs.declared.outcome.MessageEnd.{MessageEnd};
     ghost use Rattle.recording_coverage.specs.Endings.{counts_of};
     ghost use Rattle.recording_coverage.specs.Messages.{is_same_message, has_this_cell};
@@ -96,21 +97,19 @@ impl Coverage {
     }
 
     /// Counts one more of the message of this number.
-    fn count(&mut self, number: usize, outcome: MessageOutcome)
-        ensures { self.new.counts.items ≡ with_one_at number outcome self.old.counts.items }
+    fn count(&mut self, number: usize, ending: MessageEnding)
+        ensures { self.new.counts.items ≡ with_one_at number ending self.old.counts.items }
     {
         if number < self.counts.len() {
-            self.counts[number] = with_one(self.counts[number], outcome);
+            self.counts[number] = with_one(self.counts[number], ending);
         }
     }
 
-    /// Counts one more message, if there is one.
-    pub fn note(&mut self, end: Option<MessageEnd>)
-        ensures { (ends : List (Option MessageEnd)) → Covers ends self.old → Covers (ends ++ end ∷ []) self.new }
+    /// Counts one more message.
+    pub fn note(&mut self, end: MessageEnd)
+        ensures { (ends : List MessageEnd) → Covers ends self.old → Covers (ends ++ end ∷ []) self.new }
     {
-        if let Some(end) = end {
-            self.count(message_number(end.command), end.outcome);
-        }
+        self.count(message_number(end.command), end.ending);
     }
 
     /// Gives the counts at this number.
@@ -126,14 +125,14 @@ impl Coverage {
 
     /// Gives how often the message that this command asks for came to each outcome, whatever the address of the command.
     pub fn counts_of(&self, command: Command) -> OutcomeCounts
-        ensures { (ends : List (Option MessageEnd)) → Covers ends self.now → result ≡ counts_of (is_same_message command) ends }
+        ensures { (ends : List MessageEnd) → Covers ends self.now → result ≡ counts_of (is_same_message command) ends }
     {
         self.at(message_number(command))
     }
 
     /// Gives how often messages of this cell came to each outcome.
     pub fn counts_at(&self, cell: Cell) -> OutcomeCounts
-        ensures { (ends : List (Option MessageEnd)) → Covers ends self.now → result ≡ counts_of (has_this_cell cell) ends }
+        ensures { (ends : List MessageEnd) → Covers ends self.now → result ≡ counts_of (has_this_cell cell) ends }
     {
         if is_allowed(cell) {
             self.at(number_of_cell(cell))

@@ -1,5 +1,5 @@
 //! What events show of a terminal.
-ghost use Rattle.std.specs.Prelude.{◌≡◌, ◌++◌, List, Option, IfOk};
+ghost use Rattle.std.specs.Prelude.{◌≡◌, ◌++◌, List, IfOk};
 ghost use Rattle.bus_legal.specs.Description.{Description};
 ghost use Rattle.bus_legal.specs.Parts.{description_in};
 ghost use Rattle.bus_legal.specs.Reach.{reach};
@@ -17,7 +17,7 @@ use std::alloc::{AllocError, Global};
 
 /// Counts what comes of the messages of these events, of a terminal from power-up, beside what was counted before.
 pub fn count_events(coverage: &mut Coverage, normal: &Normal, events: &[Event])
-    ensures { (P : Description) (ends : List (Option MessageEnd)) → description_in normal.now ≡ reach P → Covers ends coverage.old → Covers (ends ++ ends_of P events.now) coverage.new }
+    ensures { (P : Description) (ends : List MessageEnd) → description_in normal.now ≡ reach P → Covers ends coverage.old → Covers (ends ++ ends_of P events.now) coverage.new }
 {
     count(coverage, normal.setup(), *normal, events);
 }

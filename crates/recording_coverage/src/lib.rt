@@ -14,12 +14,11 @@ mod rows;
 mod table;
 mod text;
 
-pub use counting::count_from;
 pub use coverage::Coverage;
 pub use covering::{count_events, coverage_of};
 pub use json::coverage_json;
 pub use lines::{CoverageLine, illegal_lines, legal_lines, push_command, push_place};
-pub use outcome::{MessageEnd, MessageOutcome, OutcomeCounts};
+pub use outcome::{MessageEnd, OutcomeCounts};
 pub use places::{
     CoverageRow, come_in, done_in, has_come, message_rows, total_of, was_done, word_count_in,
     word_counts,

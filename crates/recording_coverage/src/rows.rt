@@ -1,5 +1,5 @@
 //! What came of each legal message, and which illegal ones came.
-ghost use Rattle.std.specs.Prelude.{◌≡◌, ◌≤◌, ◌<◌, ◌++◌, ◌∷◌, [], List, Option, IfOk, OnOk};
+ghost use Rattle.std.specs.Prelude.{◌≡◌, ◌≤◌, ◌<◌, ◌++◌, ◌∷◌, [], List, IfOk, OnOk};
 ghost use Rattle.bus_word.specs.Cell.{cell_of};
 ghost use Rattle.bus_legal.specs.Parts.{description_in};
 ghost use Rattle.recording_coverage.specs.declared.outcome.MessageEnd.{MessageEnd};
@@ -29,7 +29,7 @@ pub struct IllegalMessage {
 
 /// Gives the row of a cell.
 fn covered_message(coverage: &Coverage, cell: Cell) -> CoveredMessage
-    ensures { (ends : List (Option MessageEnd)) → Covers ends coverage.now → result ≡ covered_in ends cell }
+    ensures { (ends : List MessageEnd) → Covers ends coverage.now → result ≡ covered_in ends cell }
 {
     CoveredMessage {
         cell,
@@ -44,7 +44,7 @@ pub fn covered_messages(
     normal: &Normal,
     coverage: &Coverage,
 ) -> Result<Vec<CoveredMessage>, AllocError>
-    ensures { IfOk result (λ rows. (ends : List (Option MessageEnd)) → Covers ends coverage.now → rows.items ≡ covered (description_in normal.now) ends) }
+    ensures { IfOk result (λ rows. (ends : List MessageEnd) → Covers ends coverage.now → rows.items ≡ covered (description_in normal.now) ends) }
 {
     let cells = legal_cells(alloc, normal)?;
     let mut rows = Vec::new(alloc);
@@ -95,7 +95,7 @@ fn push_tried(
     coverage: &Coverage,
     command: Command,
 ) -> Result<(), AllocError>
-    ensures { OnOk result ((ends : List (Option MessageEnd)) → Covers ends coverage.now → rows.new.items ≡ rows.old.items ++ tried_of (description_in normal.now) ends (command ∷ [])) }
+    ensures { OnOk result ((ends : List MessageEnd) → Covers ends coverage.now → rows.new.items ≡ rows.old.items ++ tried_of (description_in normal.now) ends (command ∷ [])) }
 {
     if command.subaddress() == 31 || has_legal_cell(normal, cell_of(command)) {
         return Ok(());
@@ -114,7 +114,7 @@ pub fn illegal_messages(
     normal: &Normal,
     coverage: &Coverage,
 ) -> Result<Vec<IllegalMessage>, AllocError>
-    ensures { IfOk result (λ rows. (ends : List (Option MessageEnd)) → Covers ends coverage.now → rows.items ≡ tried_illegal (description_in normal.now) ends) }
+    ensures { IfOk result (λ rows. (ends : List MessageEnd) → Covers ends coverage.now → rows.items ≡ tried_illegal (description_in normal.now) ends) }
 {
     let address = normal.setup().address;
     let mut rows = Vec::new(alloc);

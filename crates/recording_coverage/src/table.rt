@@ -1,5 +1,5 @@
 //! All that a recording shows of a terminal.
-ghost use Rattle.std.specs.Prelude.{◌≡◌, List, Option, IfOk, map};
+ghost use Rattle.std.specs.Prelude.{◌≡◌, List, IfOk, map};
 ghost use Rattle.bus_legal.specs.Parts.{description_in};
 ghost use Rattle.recording_coverage.specs.declared.outcome.MessageEnd.{MessageEnd};
 ghost use Rattle.recording_coverage.specs.Covers.{Covers};
@@ -28,8 +28,8 @@ impl CoverageTable {
         normal: &Normal,
         coverage: &Coverage,
     ) -> Result<CoverageTable, AllocError>
-        ensures legal { IfOk result (λ table. (ends : List (Option MessageEnd)) → Covers ends coverage.now → table.legal.items ≡ covered (description_in normal.now) ends) }
-        ensures illegal { IfOk result (λ table. (ends : List (Option MessageEnd)) → Covers ends coverage.now → table.illegal.items ≡ tried_illegal (description_in normal.now) ends) }
+        ensures legal { IfOk result (λ table. (ends : List MessageEnd) → Covers ends coverage.now → table.legal.items ≡ covered (description_in normal.now) ends) }
+        ensures illegal { IfOk result (λ table. (ends : List MessageEnd) → Covers ends coverage.now → table.illegal.items ≡ tried_illegal (description_in normal.now) ends) }
     {
         Ok(CoverageTable {
             legal: covered_messages(alloc, normal, coverage)?,
