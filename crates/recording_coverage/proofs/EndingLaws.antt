@@ -20,11 +20,11 @@ use Rattle.bus_terminal.specs.Waiting.{is_engaged}
 use Rattle.terminal_messages.specs.declared.ending.MessageEnding.TheVariants.{Open}
 use Rattle.terminal_messages.specs.Told.{ToldEvent, event_bus, begins_message, begun_in}
 use Rattle.terminal_messages.specs.Message.{Message}
-use Rattle.terminal_messages.specs.Parts.{tell, part_now, awaits_on, command_begun, second_of}
+use Rattle.terminal_messages.specs.Parts.{tell, part_now, awaits_on, command_begun, second_of, terminal_command}
 use Rattle.terminal_messages.specs.Messages.{messages_of, closed, still_open}
 use Rattle.terminal_messages.specs.Ends.{end_so_far, end_after, end_closed, with_gap_within, shows_gap_within, cause_of}
 use Rattle.recording_coverage.specs.declared.outcome.MessageEnd.{MessageEnd}
-use Rattle.recording_coverage.specs.Endings.{terminal_command, counted_end, ends_of}
+use Rattle.recording_coverage.specs.Endings.{counted_end, ends_of}
 
 -- what can be reached agrees where it can be asked for
 reached_agrees : (P : Description) → Agrees P (reach P)

@@ -8,7 +8,7 @@ use Rattle.terminal_rules.specs.Past.{history_after}
 use Rattle.terminal_messages.specs.declared.watch.MessageWatch.{MessageWatch}
 use Rattle.terminal_messages.specs.declared.fold.ClosedMessages.{ClosedMessages}
 use Rattle.terminal_messages.specs.Message.{Message}
-use Rattle.terminal_messages.specs.Parts.{tell, command_begun, second_of}
+use Rattle.terminal_messages.specs.Parts.{tell, command_begun, second_of, terminal_command}
 use Rattle.terminal_messages.specs.Messages.{closed, closed_by}
 use Rattle.terminal_messages.specs.Ends.{ended_how}
 use Rattle.terminal_messages.specs.View.{View, told_view}
@@ -16,7 +16,7 @@ use Rattle.terminal_messages.specs.Fold.{shown_closed}
 use Rattle.terminal_messages.specs.Watch.{WatchStands, told_event_at}
 use Rattle.recording_coverage.specs.declared.coverage.Coverage.{Coverage}
 use Rattle.recording_coverage.specs.declared.outcome.MessageEnd.{MessageEnd}
-use Rattle.recording_coverage.specs.Endings.{terminal_command, counted_end}
+use Rattle.recording_coverage.specs.Endings.{counted_end}
 use Rattle.recording_coverage.specs.Covers.{Covers}
 use Rattle.recording_coverage.specs.inner.Counted.{end_told, ends_told, ends_over}
 

@@ -1,25 +1,18 @@
 -- What came of the messages of some events, and how often with which outcome.
-use Rattle.std.specs.Prelude.{ℕ, ◌-◌, ◌^◌, Bool, true, false, ◌&&◌, ◌==◌, min, if◌then◌else◌, count_by, Option, Some, None, List, map}
-use Rattle.bus_word.specs.Command.{address_of}
+use Rattle.std.specs.Prelude.{ℕ, ◌-◌, ◌^◌, Bool, true, false, ◌&&◌, min, count_by, List, map}
 use Rattle.bus_legal.specs.Description.{Description}
 use Rattle.terminal_rules.specs.declared.event.Event.{Event}
 use Rattle.terminal_messages.specs.declared.ending.MessageEnding.{MessageEnding}
 use Rattle.terminal_messages.specs.declared.ending.MessageEnding.TheVariants.{Superseded, Open}
 use Rattle.terminal_messages.specs.Message.{Message}
-use Rattle.terminal_messages.specs.Parts.{command_begun, second_of}
+use Rattle.terminal_messages.specs.Parts.{command_begun, second_of, terminal_command}
 use Rattle.terminal_messages.specs.Messages.{messages_of}
 use Rattle.terminal_messages.specs.Ends.{ended_how}
 use Rattle.terminal_messages.specs.Laws.{says_error, says_illegal, says_busy, says_done}
 use Rattle.recording_coverage.specs.declared.outcome.MessageEnd.{MessageEnd}
 use Rattle.recording_coverage.specs.declared.outcome.OutcomeCounts.{OutcomeCounts}
 
--- The command that a message has for the terminal of this address: the first; but of a transfer in which the terminal is the
--- transmitter, the second (MIL-STD-1553B, 4.3.3.6.3, 4.3.3.6.7.2).
-abbrev pub terminal_command : ℕ → ℕ → Option ℕ → ℕ
-terminal_command own first None = first
-terminal_command own first (Some second) = if address_of second == own then second else first
-
--- how a message ended, with that command
+-- how a message ended, with its command for the terminal
 abbrev pub counted_end : Description → Message → MessageEnd
 counted_end P m = record { command = terminal_command P.address (command_begun m) (second_of m); ending = ended_how P m }
 

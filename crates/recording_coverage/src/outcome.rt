@@ -1,6 +1,6 @@
 //! What comes of messages, and how often.
 ghost use Rattle.std.specs.Prelude.{◌≡◌};
-ghost use Rattle.recording_coverage.specs.Endings.{terminal_command};
+ghost use Rattle.terminal_messages.specs.Parts.{terminal_command};
 ghost use Rattle.recording_coverage.specs.inner.Counted.{end_told, with_one};
 
 use bus_word::Command;

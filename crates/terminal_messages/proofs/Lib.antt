@@ -13,5 +13,8 @@ pub mod Placed
 pub mod EndsLaw
 pub mod ToldLaw
 pub mod Once
+pub mod Each
 pub mod Exact
+pub mod Unstarted
+pub mod Starts
 pub mod GoOnLaw

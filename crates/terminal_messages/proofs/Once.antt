@@ -189,7 +189,7 @@ gap_fits P h c b = record {
       (sym (λ j. not (is_ignored (t_of P h (Gap c)).noted.turn) && (same_bus b c || is_on b (gap_sends_none (hands P (ends_now P (past P h) (Gap c))) j))) ∙ n);
 }
 
-end_fits : (P : Description) (h : List Event) (e : Event) (b : Bus) → EndFits P h e b
+pub end_fits : (P : Description) (h : List Event) (e : Event) (b : Bus) → EndFits P h e b
 end_fits P h (Word c w) b = word_fits P h c b w
 end_fits P h (Noise c) b = noise_fits P h c b
 end_fits P h (Gap c) b = gap_fits P h c b
@@ -289,7 +289,7 @@ begun_waits P h (FlagIs f v) b e = cc
 begun_waits P h Slot b e = cc
 
 -- what neither closes nor concerns the message on a bus starts nothing
-unstarted : (P : Description) (h : List Event) (e : Event) (b : Bus) → EventFits P h e → closes b (t_of P h e) ≡ false → belongs_on b (t_of P h e) ≡ false → (t_of P h e).noted.starts ≡ false
+pub unstarted : (P : Description) (h : List Event) (e : Event) (b : Bus) → EventFits P h e → closes b (t_of P h e) ≡ false → belongs_on b (t_of P h e) ≡ false → (t_of P h e).noted.starts ≡ false
 unstarted P h e b (inr f) c n = f.starts
 unstarted P h e b (inl f) c n =
     elim (same_or b f.0) [

@@ -95,7 +95,7 @@ second_taken P c false s e a false m k p =
     never false false a true x = cc
     never false false a false x = cc
 
-second_word : (P : Description) (c : ℕ) (v i s e a : Bool) (m : Option Message) → is_second_command (if v then part_of_command P c i s e a m else Plain) ≡ true → takes_second c m ≡ true
+pub second_word : (P : Description) (c : ℕ) (v i s e a : Bool) (m : Option Message) → is_second_command (if v then part_of_command P c i s e a m else Plain) ≡ true → takes_second c m ≡ true
 second_word P c false i s e a m p = cc
 second_word P c true i s e a m p = second_taken P c i s e a (takes_second c m) m refl p
 

@@ -1,23 +1,24 @@
 -- What holds of the messages of a run.
-use Rattle.std.specs.Prelude.{◌≡◌, ℕ, ◌+◌, if◌then◌else◌, Bool, true, false, ◌&&◌, ◌||◌, Option, Some, None, is_some, List, [], ◌∷◌, ◌++◌}
+use Rattle.std.specs.Prelude.{◌≡◌, ℕ, ◌+◌, if◌then◌else◌, Bool, true, false, ◌&&◌, ◌||◌, Option, Some, None, is_some, is_none, List, [], ◌∷◌, ◌++◌}
 use Rattle.bus_word.specs.declared.word.Bus.{Bus}
 use Rattle.bus_word.specs.declared.word.Raw.{Raw}
 use Rattle.bus_word.specs.Word.{is_command}
 use Rattle.bus_legal.specs.Description.{Description}
 use Rattle.terminal_rules.specs.declared.event.Event.{Event}
 use Rattle.terminal_rules.specs.declared.event.Event.TheVariants.{Word}
-use Rattle.terminal_rules.specs.LookBack.{keep, some}
+use Rattle.terminal_rules.specs.LookBack.{keep, latest, some}
 use Rattle.terminal_rules.specs.History.{Ending, Nothing, Badly, Illegal, Blocked, Done}
 use Rattle.terminal_rules.specs.Open.{is_on}
 use Rattle.terminal_rules.specs.Past.{past, history_after}
+use Rattle.terminal_rules.specs.SinceReset.{either_word}
 use Rattle.terminal_rules.specs.Out.{Out, Silence, outs}
 use Rattle.terminal_messages.specs.declared.part.MessagePart.{MessagePart}
 use Rattle.terminal_messages.specs.declared.part.MessagePart.TheVariants.{Plain, First, Unheard}
 use Rattle.terminal_messages.specs.declared.ending.MessageEnding.{MessageEnding}
-use Rattle.terminal_messages.specs.declared.ending.MessageEnding.TheVariants.{InError, Illegal as ToIllegal, Busy as ToBusy, Done as ToDone}
+use Rattle.terminal_messages.specs.declared.ending.MessageEnding.TheVariants.{Other, Ignored, InError, Illegal as ToIllegal, Busy as ToBusy, Done as ToDone}
 use Rattle.terminal_messages.specs.Told.{ToldEvent, is_first_command, is_unheard, event_bus, belongs_on, closes}
 use Rattle.terminal_messages.specs.Message.{Message, message_on_bus}
-use Rattle.terminal_messages.specs.Parts.{tell, told}
+use Rattle.terminal_messages.specs.Parts.{tell, told, bits_of_word, command_begun, second_of, terminal_command}
 use Rattle.terminal_messages.specs.Messages.{messages_of, closed}
 use Rattle.terminal_messages.specs.Ends.{first_to_last, ended_how}
 
@@ -167,3 +168,32 @@ EachMessage Q (m ∷ ms) = Q m × EachMessage Q ms
 -- Each message of a run is told to be done, illegal, busy or in error exactly if the rules of the terminal end it so.
 abbrev pub ExactLaw : Type 0
 ExactLaw = (P : Description) (es : List Event) → EachMessage (λ m. IsToldEnded (ended_how P m) m × EndsAs (ended_how P m) m) (messages_of P es)
+
+-- the command with which an event starts a message
+abbrev pub start_in : ToldEvent → Option ℕ
+start_in t = if t.noted.starts then Some (bits_of_word t.noted.event) else None
+
+-- that of the last event that starts one, of those of a message
+abbrev pub last_start : Message → Option ℕ
+last_start m = either_word (latest start_in m.later) (start_in m.first)
+
+-- there is none, or it is this one
+abbrev pub StartsWith : ℕ → Option ℕ → Type 0
+StartsWith c None = Unit {0}
+StartsWith c (Some d) = d ≡ c
+
+-- a message is told to be for other terminals, or ignored
+abbrev pub says_unstarted : MessageEnding → Bool
+says_unstarted Other = true
+says_unstarted (Ignored cause) = true
+says_unstarted x = false
+
+-- the terminal starts a message, or does not, and this is told of it
+pub record IsToldStarted (P : Description) (m : Message) : Type 0 where
+  pub told : says_unstarted (ended_how P m) ≡ is_none (last_start m)
+  pub command : StartsWith (terminal_command P.address (command_begun m) (second_of m)) (last_start m)
+
+-- A message of a run is told to be for other terminals, or ignored, exactly if the terminal does not start it. If it does, then last
+-- with the command that the message has for it.
+abbrev pub StartLaw : Type 0
+StartLaw = (P : Description) (es : List Event) → EachMessage (IsToldStarted P) (messages_of P es)

@@ -35,6 +35,12 @@ second_in t = if is_second_command t.part then Some (bits_of_word t.noted.event)
 abbrev pub second_of : Message → Option ℕ
 second_of m = latest second_in m.later
 
+-- The command that a message has for the terminal of this address: the first; but of a transfer in which that transmits, the second
+-- (MIL-STD-1553B, 4.3.3.6.3, 4.3.3.6.7.2).
+abbrev pub terminal_command : ℕ → ℕ → Option ℕ → ℕ
+terminal_command own first None = first
+terminal_command own first (Some second) = if address_of second == own then second else first
+
 -- The second command of a transfer (MIL-STD-1553B, 4.3.3.6.3, 4.3.3.6.7.2): behind a receive command of data, with nothing
 -- between them, a command by which one terminal other than the receiver transmits.
 abbrev pub is_transmitter_for : ℕ → ℕ → Bool

@@ -5,12 +5,12 @@ use Rattle.terminal_rules.specs.declared.event.Event.{Event}
 use Rattle.terminal_messages.specs.declared.ending.MessageEnding.{MessageEnding}
 use Rattle.terminal_messages.specs.declared.ending.MessageEnding.TheVariants.{InError, Illegal, Busy, Done, Superseded, Open}
 use Rattle.terminal_messages.specs.declared.state.MessageState.{MessageState}
-use Rattle.terminal_messages.specs.Parts.{tell}
+use Rattle.terminal_messages.specs.Parts.{tell, terminal_command}
 use Rattle.terminal_messages.specs.Messages.{closed}
 use Rattle.terminal_messages.specs.View.{View}
 use Rattle.recording_coverage.specs.declared.outcome.MessageEnd.{MessageEnd}
 use Rattle.recording_coverage.specs.declared.outcome.OutcomeCounts.{OutcomeCounts}
-use Rattle.recording_coverage.specs.Endings.{saturated, terminal_command, counted_end}
+use Rattle.recording_coverage.specs.Endings.{saturated, counted_end}
 use Rattle.recording_coverage.specs.Covers.{no_counts}
 
 -- how a message ended, by what is told of it
