@@ -1,3 +1,4 @@
 pub mod Commands
 pub mod Filter
+pub mod Texts
 pub mod inner

@@ -1,12 +1,26 @@
 //! What is told of a message, field by field.
-use crate::status::{STATUS_BITS, is_bit_set};
+ghost use Rattle.std.specs.Prelude.{◌≡◌, ◌≤◌, ◌<◌, ◌+◌, ◌*◌, ◌++◌, length, Some, decimal};
+ghost use Rattle.std.specs.List.{flat_map};
+ghost use Rattle.arrayvec.specs.ArrayString.{array_string_len};
+ghost use Rattle.terminal_rules.specs.Out.{HandsReceived};
+ghost use Rattle.bus_terminal.specs.Answer.{shown_copy};
+ghost use Rattle.script_lines.specs.Transcript.{word_field};
+ghost use Rattle.terminal_messages.specs.Ends.{handed_in};
+ghost use Rattle.message_rows.specs.Texts.{bit_text, received_front, place_text, spaced, words_text, handing_text, handed_text, bits_text, transmitter_text, with_why, end_name, why, status_text, field_text, IsShort};
+
+use crate::status::{STATUS_BITS, is_bit_set, status_bit};
 use crate::text::{end_name, place_of, why};
+use arrayvec::ArrayString;
 use bus_terminal::CopiedAnswer;
 use bus_word::Command;
-use script_lines::write_answer;
+use itoa::Buffer;
+use script_lines::{push_number, push_word};
 use std::alloc::{AllocError, Global};
 use std::fmt;
 use terminal_messages::KeptMessage;
+
+/// Room for the text of a field, and for that of a row.
+pub type RowText = ArrayString<8192>;
 
 /// A field of a row. Where there is no text, number, word or command, nothing is told.
 #[derive(Clone, Copy)]
@@ -35,70 +49,215 @@ pub enum Field<'a> {
     Status(Option<u16>),
 }
 
-fn write_place<W: fmt::Write>(f: &mut fmt::Formatter<W>, command: Command) -> fmt::Result {
-    let mode = if command.is_mode() { "mode " } else { "" };
-    write!(f, "{mode}{}", place_of(command))
+/// Adds a number.
+fn push_decimal(text: &mut RowText, number: u64)
+    requires { array_string_len text.old + 40 ≤ 8192 }
+    ensures bytes { text.new.bytes ≡ text.old.bytes ++ decimal number }
+    ensures len { array_string_len text.new ≤ array_string_len text.old + 40 }
+{
+    let mut buffer = Buffer::new();
+    text.push_str(buffer.format(number));
 }
 
-fn write_words<W: fmt::Write>(f: &mut fmt::Formatter<W>, message: &KeptMessage) -> fmt::Result {
-    let mut space = "";
-    for word in message.words.as_slice() {
-        write!(f, "{space}{word:04x}")?;
-        space = " ";
+/// Adds the subaddress of a command, or its mode code.
+fn push_place(text: &mut RowText, command: Command)
+    requires { array_string_len text.old + 45 ≤ 8192 }
+    ensures bytes { text.new.bytes ≡ text.old.bytes ++ place_text command }
+    ensures len { array_string_len text.new ≤ array_string_len text.old + 45 }
+{
+    if command.is_mode() {
+        text.push_str("mode ");
     }
-    if message.left_out > 0 {
-        write!(f, " and {} more", message.left_out)?;
+    push_decimal(text, u64::from(place_of(command)));
+}
+
+/// Adds the address of a command, and its subaddress or mode code.
+fn push_transmitter(text: &mut RowText, command: Command)
+    requires { array_string_len text.old + 86 ≤ 8192 }
+    ensures bytes { text.new.bytes ≡ text.old.bytes ++ transmitter_text (Some command) }
+    ensures len { array_string_len text.new ≤ array_string_len text.old + 86 }
+{
+    push_decimal(text, u64::from(command.address()));
+    text.push_str(" ");
+    push_place(text, command);
+}
+
+/// Adds words, each behind a space.
+fn push_behind(text: &mut RowText, words: &[u16])
+    requires { array_string_len text.old + 5 * length words.now ≤ 8192 }
+    ensures bytes { text.new.bytes ≡ text.old.bytes ++ flat_map word_field words.now }
+    ensures len { array_string_len text.new ≡ array_string_len text.old + 5 * length words.now }
+{
+    for word in words {
+        text.push_str(" ");
+        push_word(text, *word);
     }
-    Ok(())
 }
 
-fn write_handed<W: fmt::Write>(f: &mut fmt::Formatter<W>, handed: &CopiedAnswer) -> fmt::Result {
-    let line = write_answer(&handed.lent());
-    let text = line.as_str();
-    let text = text.strip_prefix("hand ").unwrap_or(text);
-    f.write_str(text.strip_suffix("\n").unwrap_or(text))
+/// Adds words with a space between two.
+fn push_spaced(text: &mut RowText, words: &[u16])
+    requires { array_string_len text.old + 5 * length words.now ≤ 8192 }
+    ensures bytes { text.new.bytes ≡ text.old.bytes ++ spaced words.now }
+    ensures len { array_string_len text.new ≤ array_string_len text.old + 5 * length words.now }
+{
+    let [first, rest @ ..] = words else {
+        return;
+    };
+    push_word(text, *first);
+    push_behind(text, rest);
 }
 
-/// Writes the bits that are set, with a space between two; behind a word also before the first.
-fn write_bits<W: fmt::Write>(f: &mut fmt::Formatter<W>, word: u16, is_behind: bool) -> fmt::Result {
-    let mut is_behind = is_behind;
-    for (place, name) in STATUS_BITS {
-        if is_bit_set(word, place) {
-            let space = if is_behind { " " } else { "" };
-            write!(f, "{space}{name}")?;
-            is_behind = true;
+/// Adds data words, and how many are left out.
+fn push_words(text: &mut RowText, words: &[u16], left_out: u64)
+    requires { array_string_len text.old + (5 * length words.now + 50) ≤ 8192 }
+    ensures bytes { text.new.bytes ≡ text.old.bytes ++ words_text words.now left_out }
+    ensures len { array_string_len text.new ≤ array_string_len text.old + (5 * length words.now + 50) }
+{
+    push_spaced(text, words);
+    if left_out > 0 {
+        text.push_str(" and ");
+        push_decimal(text, left_out);
+        text.push_str(" more");
+    }
+}
+
+/// What stands before what was received.
+fn received_front(broadcast: bool) -> &'static str
+    ensures text { result.now ≡ received_front broadcast }
+    ensures short { length result.now ≤ 18 }
+{
+    if broadcast {
+        "receive broadcast "
+    } else {
+        "receive own "
+    }
+}
+
+/// Adds what was received.
+fn push_received(text: &mut RowText, broadcast: bool, subaddress: u8, words: &[u16])
+    requires room { array_string_len text.old + (20 + 5 * length words.now) ≤ 8192 }
+    ensures bytes { text.new.bytes ≡ text.old.bytes ++ handing_text (HandsReceived broadcast subaddress words.now) }
+    ensures len { array_string_len text.new ≤ array_string_len text.old + (20 + 5 * length words.now) }
+{
+    text.push_str(received_front(broadcast));
+    push_number(text, subaddress);
+    push_behind(text, words);
+}
+
+/// Adds what was handed over, as it stands in a transcript behind `hand `.
+fn push_handed(text: &mut RowText, handed: &CopiedAnswer)
+    requires { array_string_len text.old + 180 ≤ 8192 }
+    ensures bytes { text.new.bytes ≡ text.old.bytes ++ handed_text (handed_in (shown_copy handed.now)) }
+    ensures len { array_string_len text.new ≤ array_string_len text.old + 180 }
+{
+    match handed {
+        CopiedAnswer::Received {
+            broadcast,
+            subaddress,
+            words,
+        } => push_received(text, *broadcast, *subaddress, words.as_slice()),
+        CopiedAnswer::Synchronize => text.push_str("sync"),
+        CopiedAnswer::SynchronizeWith(word) => {
+            text.push_str("sync ");
+            push_word(text, *word);
         }
+        CopiedAnswer::SelfTest => text.push_str("self-test"),
+        CopiedAnswer::BusControl => text.push_str("bus-control"),
+        CopiedAnswer::Silent | CopiedAnswer::Sends(_) => {}
     }
-    Ok(())
+}
+
+/// Adds the name of the bit of this place value, if it is set: behind a space, if something stands before it.
+fn push_bit(text: &mut RowText, word: u16, is_behind: bool, place: u16, name: &str)
+    requires place { 0 < place }
+    requires room { array_string_len text.old + 16 ≤ 8192 }
+    requires name { length name.now ≤ 15 }
+    ensures bytes { text.new.bytes ≡ text.old.bytes ++ bit_text is_behind word place name.now }
+    ensures len { array_string_len text.new ≤ array_string_len text.old + 16 }
+{
+    if is_bit_set(word, place) {
+        if is_behind || word % 2048 / place / 2 > 0 {
+            text.push_str(" ");
+        }
+        text.push_str(name);
+    }
+}
+
+/// Adds the bits that are set, with a space between two; behind a word also before the first.
+fn push_bits(text: &mut RowText, word: u16, is_behind: bool)
+    requires { array_string_len text.old + 176 ≤ 8192 }
+    ensures bytes { text.new.bytes ≡ text.old.bytes ++ bits_text is_behind word }
+    ensures len { array_string_len text.new ≤ array_string_len text.old + 176 }
+{
+    for index in 0..STATUS_BITS {
+        let (place, name) = status_bit(index);
+        push_bit(text, word, is_behind, place, name);
+    }
+}
+
+/// Adds a status word, and its bits.
+fn push_status(text: &mut RowText, word: u16)
+    requires { array_string_len text.old + 180 ≤ 8192 }
+    ensures bytes { text.new.bytes ≡ text.old.bytes ++ status_text (Some word) }
+    ensures len { array_string_len text.new ≤ array_string_len text.old + 180 }
+{
+    push_word(text, word);
+    push_bits(text, word, true);
+}
+
+/// Adds how a message ended, and why.
+fn push_end(text: &mut RowText, message: &KeptMessage)
+    requires { array_string_len text.old + 100 ≤ 8192 }
+    ensures bytes { text.new.bytes ≡ text.old.bytes ++ with_why (end_name message.now.state.«end») (why message.now.state.«end» message.now.state.unsent) }
+    ensures len { array_string_len text.new ≤ array_string_len text.old + 100 }
+{
+    text.push_str(end_name(message.state.end));
+    if let Some(why) = why(message) {
+        text.push_str(": ");
+        text.push_str(why);
+    }
+}
+
+/// Adds what a field says: at most 400 bytes, if it is no longer text.
+pub fn push_field(text: &mut RowText, field: &Field<'_>)
+    requires room { array_string_len text.old + 400 ≤ 8192 }
+    requires short { IsShort field.now }
+    ensures bytes { text.new.bytes ≡ text.old.bytes ++ field_text field.now }
+    ensures len { array_string_len text.new ≤ array_string_len text.old + 400 }
+{
+    match *field {
+        Field::Text(Some(told)) => text.push_str(told),
+        Field::Number(number) => push_decimal(text, number),
+        Field::Small(Some(number)) => push_decimal(text, u64::from(number)),
+        Field::Address(31) => text.push_str("all"),
+        Field::Address(address) => push_decimal(text, u64::from(address)),
+        Field::Place(command) => push_place(text, command),
+        Field::Transmitter(Some(command)) => push_transmitter(text, command),
+        Field::End(message) => push_end(text, message),
+        Field::Words(message) => push_words(text, message.words.as_slice(), message.left_out),
+        Field::Handed(handed) => push_handed(text, handed),
+        Field::Digits(Some(word)) => push_word(text, word),
+        Field::Bits(Some(word)) => push_bits(text, word, false),
+        Field::Status(Some(word)) => push_status(text, word),
+        Field::Text(None)
+        | Field::Small(None)
+        | Field::Transmitter(None)
+        | Field::Digits(None)
+        | Field::Bits(None)
+        | Field::Status(None) => {}
+    }
 }
 
 impl fmt::Display for Field<'_> {
+    ghost output = { λ field. Some (field_text field) };
+
     fn fmt<W: fmt::Write>(&self, f: &mut fmt::Formatter<W>) -> fmt::Result {
-        match *self {
-            Field::Text(Some(text)) => f.write_str(text),
-            Field::Number(number) => write!(f, "{number}"),
-            Field::Small(Some(number)) => write!(f, "{number}"),
-            Field::Address(31) => f.write_str("all"),
-            Field::Address(address) => write!(f, "{address}"),
-            Field::Place(command) => write_place(f, command),
-            Field::Transmitter(Some(command)) => {
-                write!(f, "{} ", command.address())?;
-                write_place(f, command)
-            }
-            Field::End(message) => match why(message) {
-                Some(why) => write!(f, "{}: {why}", end_name(message.state.end)),
-                None => f.write_str(end_name(message.state.end)),
-            },
-            Field::Words(message) => write_words(f, message),
-            Field::Handed(handed) => write_handed(f, handed),
-            Field::Digits(Some(word)) => write!(f, "{word:04x}"),
-            Field::Bits(Some(word)) => write_bits(f, word, false),
-            Field::Status(Some(word)) => {
-                write!(f, "{word:04x}")?;
-                write_bits(f, word, true)
-            }
-            _ => Ok(()),
+        if let Field::Text(told) = *self {
+            return f.write_str(told.unwrap_or(""));
         }
+        let mut text = RowText::new();
+        push_field(&mut text, self);
+        f.write_str(text.as_str())
     }
 }
 

@@ -1,7 +1,7 @@
 //! Rows as JSON.
 use crate::commands::MessageCommands;
 use crate::field::Field;
-use crate::status::{STATUS_BITS, is_bit_set};
+use crate::status::{STATUS_BITS, is_bit_set, status_bit};
 use crate::text::{bus_name, count_of, end_name, form_name, why};
 use bus_terminal::CopiedAnswer;
 use bus_word::{Command, mode_name};
@@ -29,7 +29,8 @@ fn write_words<S: Serializer>(out: &mut S, words: &[u16]) -> Result<(), S::Error
 fn write_bits<S: Serializer>(out: &mut S, status: Option<u16>) -> Result<(), S::Error> {
     let word = status.unwrap_or(0);
     out.begin_seq(None)?;
-    for (place, name) in STATUS_BITS {
+    for index in 0..STATUS_BITS {
+        let (place, name) = status_bit(index);
         if is_bit_set(word, place) {
             out.str(name)?;
         }

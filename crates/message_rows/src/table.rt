@@ -1,6 +1,8 @@
 //! Rows as CSV.
-ghost use Rattle.std.specs.Prelude.{◌≡◌, map, IfOk};
+ghost use Rattle.std.specs.Prelude.{◌≡◌, map, take, All, IfOk};
 ghost use Rattle.csv.specs.Writing.{row_text};
+ghost use Rattle.terminal_messages.specs.Shown.{shown_message};
+ghost use Rattle.message_rows.specs.Texts.{field_text, row_fields, IsShort};
 ghost use Rattle.message_rows.specs.inner.Table.{rows_writer};
 
 use crate::commands::MessageCommands;
@@ -11,10 +13,10 @@ use std::alloc::{AllocError, Global};
 use terminal_messages::KeptMessage;
 
 /// How many columns there are.
-const NAMED: usize = 17;
+pub const NAMED: usize = 17;
 
 /// How many there are without names.
-const NAMELESS: usize = 16;
+pub const NAMELESS: usize = 16;
 
 /// The columns; the last one where there are names.
 const ROW_COLUMNS: [&[u8]; NAMED] = [
@@ -63,7 +65,10 @@ pub fn rows_header(alloc: Global, with_names: bool) -> Result<Vec<u8>, AllocErro
 }
 
 /// The fields of a message, with its name.
-fn fields_of<'a>(message: &'a KeptMessage, name: Option<&'a str>) -> [Field<'a>; NAMED] {
+pub fn fields_of<'a>(message: &'a KeptMessage, name: Option<&'a str>) -> [Field<'a>; NAMED]
+    ensures fields { map field_text (take 16 result) ≡ row_fields (shown_message message.now) }
+    ensures short { All IsShort (take 16 result) }
+{
     let commands = MessageCommands::of(message);
     let command = commands.command;
     let code = command.is_mode().then_some(command.code());

@@ -1,4 +1,10 @@
 //! Rows as lines of text.
+ghost use Rattle.std.specs.Prelude.{◌≡◌, ◌≤◌, length, IfSome, Some, None, if◌then◌else◌};
+ghost use Rattle.std.specs.Option.{option_map};
+ghost use Rattle.bus_word.specs.Command.{is_mode, count_of};
+ghost use Rattle.script_lines.specs.Transcript.{bus_letter};
+ghost use Rattle.message_rows.specs.Texts.{form_name, end_name, cause_name, ignore_name, why, place_of};
+
 use crate::commands::{MessageCommands, MessageForm};
 use crate::field::{Field, texts_of};
 use bus_word::{Bus, Command};
@@ -10,7 +16,10 @@ use terminal_messages::{ErrorCause, IgnoreCause, KeptMessage, MessageEnding, Uns
 pub const ROW_HEADER: &str = "number    line bus kind      RT sub words ended\n";
 
 /// The letter of a bus.
-pub fn bus_name(bus: Bus) -> &'static str {
+pub fn bus_name(bus: Bus) -> &'static str
+    ensures text { result.now ≡ bus_letter bus }
+    ensures short { length result.now ≤ 1 }
+{
     match bus {
         Bus::A => "A",
         Bus::B => "B",
@@ -18,7 +27,10 @@ pub fn bus_name(bus: Bus) -> &'static str {
 }
 
 /// What a message is called by its form.
-pub fn form_name(form: MessageForm) -> &'static str {
+pub fn form_name(form: MessageForm) -> &'static str
+    ensures text { result.now ≡ form_name form }
+    ensures short { length result.now ≤ 8 }
+{
     match form {
         MessageForm::Receive => "rx",
         MessageForm::Transmit => "tx",
@@ -28,7 +40,10 @@ pub fn form_name(form: MessageForm) -> &'static str {
 }
 
 /// How a message ended, in a word or two.
-pub fn end_name(end: MessageEnding) -> &'static str {
+pub fn end_name(end: MessageEnding) -> &'static str
+    ensures text { result.now ≡ end_name end }
+    ensures short { length result.now ≤ 10 }
+{
     match end {
         MessageEnding::Other => "other",
         MessageEnding::Open => "open",
@@ -42,7 +57,10 @@ pub fn end_name(end: MessageEnding) -> &'static str {
 }
 
 /// Why a message ended in error.
-fn cause_name(cause: ErrorCause) -> &'static str {
+fn cause_name(cause: ErrorCause) -> &'static str
+    ensures text { result.now ≡ cause_name cause }
+    ensures short { length result.now ≤ 30 }
+{
     match cause {
         ErrorCause::WordCount => "wrong word count",
         ErrorCause::InvalidWord => "invalid word or noise",
@@ -53,7 +71,10 @@ fn cause_name(cause: ErrorCause) -> &'static str {
 }
 
 /// Why a command starts nothing.
-fn ignore_name(cause: IgnoreCause) -> &'static str {
+fn ignore_name(cause: IgnoreCause) -> &'static str
+    ensures text { result.now ≡ ignore_name cause }
+    ensures short { length result.now ≤ 22 }
+{
     match cause {
         IgnoreCause::Reply => "during a reply",
         IgnoreCause::NoGap => "no gap after a command",
@@ -61,7 +82,10 @@ fn ignore_name(cause: IgnoreCause) -> &'static str {
 }
 
 /// Why a message ended so, where there is a reason, or lacks its reply or a part of it.
-pub fn why(message: &KeptMessage) -> Option<&'static str> {
+pub fn why(message: &KeptMessage) -> Option<&'static str>
+    ensures text { option_map (λ t. t.now) result ≡ why message.now.state.«end» message.now.state.unsent }
+    ensures short { IfSome result (λ t. length t.now ≤ 43) }
+{
     match (message.state.end, message.state.unsent) {
         (MessageEnding::InError(cause), _) => Some(cause_name(cause)),
         (MessageEnding::Ignored(cause), _) => Some(ignore_name(cause)),
@@ -72,7 +96,9 @@ pub fn why(message: &KeptMessage) -> Option<&'static str> {
 }
 
 /// The subaddress of a command of data words, or its mode code.
-pub fn place_of(command: Command) -> u8 {
+pub fn place_of(command: Command) -> u8
+    ensures { result ≡ place_of command }
+{
     if command.is_mode() {
         command.code()
     } else {
@@ -81,7 +107,9 @@ pub fn place_of(command: Command) -> u8 {
 }
 
 /// The word count of a command of data words.
-pub fn count_of(command: Command) -> Option<u8> {
+pub fn count_of(command: Command) -> Option<u8>
+    ensures { result ≡ (if is_mode command then None else Some (count_of command)) }
+{
     if command.is_mode() {
         None
     } else {

@@ -1,1 +1,3 @@
 pub mod PageTold
+pub mod Listed
+pub mod inner

@@ -11,11 +11,14 @@ ghost use Rattle.rt1553.specs.Compare.{AreSame, AreDifferent, IsNotComparedCanon
 ghost use Rattle.rt1553.specs.Engine.{RunCompletes, RunStops, OnLoad, OnScript};
 ghost use Rattle.script_lines.specs.EventLine.{script_text};
 ghost use Rattle.rt1553_page.specs.PageTold.{TellsRefusal, TellsStop, IsFront};
+ghost use Rattle.rt1553_page.specs.Listed.{ListsAll, ListsTooMany, TellsListing};
 
+mod listing;
 mod room;
 mod script;
 
 use bus_script::RunFault;
+use listing::list_messages;
 use room::Room;
 use rt1553::{EngineFault, Verdict, compare_canonical, load_canonical, run_canonical};
 use rt1553_live::{PlainFault, event_lines, put_all, tell_fault};
@@ -129,6 +132,43 @@ pub extern "C" fn page_run(
         Err(EngineFault::Script(RunFault::Write)) => NO_ROOM,
         Err(why) => {
             tell_fault(fault, &why);
+            REFUSED
+        }
+    }
+}
+
+/// Lists the messages that the terminal of a canonical text has in a script, from power-up: writes a row for each at the front of the room,
+/// in the order in which they are over, and how many bytes the rows have. A row is a line of fields as `rt1553-tool messages --format csv`
+/// prints them. Where a line of the script is refused, the rows are those of the events before it.
+#[unsafe(no_mangle)]
+pub extern "C" fn page_messages(
+    text: &[u8],
+    script: &[u8],
+    to: &mut [u8],
+    filled: &mut usize,
+    fault: &mut PlainFault,
+) -> u8
+    ensures done { result ≡ DONE → ListsAll text.now script.now (take filled.new to.new) × (fault.new ≡ fault.old) }
+    ensures no_room { result ≡ NO_ROOM → ListsTooMany text.now script.now (length to.old) × (filled.new ≡ 0) × (fault.new ≡ fault.old) }
+    ensures refused { result ≢ DONE → result ≢ NO_ROOM → (result ≡ REFUSED) × TellsListing text.now script.now (take filled.new to.new) fault.new }
+{
+    *filled = 0;
+    let normal = match load_canonical(text) {
+        Ok(normal) => normal,
+        Err(why) => {
+            tell_fault(fault, &EngineFault::Load(why));
+            return REFUSED;
+        }
+    };
+    let (ended, listed) = list_messages(normal, script, to);
+    if listed.is_over {
+        return NO_ROOM;
+    }
+    *filled = listed.bytes;
+    match ended {
+        None => DONE,
+        Some(why) => {
+            tell_fault(fault, &EngineFault::Script(why));
             REFUSED
         }
     }
