@@ -2,40 +2,40 @@
  * One message, word by word and bit by bit.
  */
 import { el, rowOf, tableOf } from './dom.js';
-import { fieldsOf, hex4, statusNames, tellCommand } from './words.js';
+import { endingOf, placeOf, toneOf } from './rows.js';
+import { fieldsOf } from './words.js';
 
-/** @param {HTMLElement} place @param {import('./decode.js').Row|null} row */
+/** @param {HTMLElement} place @param {import('./rows.js').Row|null} row */
 export function showDetails(place, row) {
   const empty = el('p', { class: 'empty' }, 'Choose a message to see its words bit by bit. Arrow keys move along the list.');
   place.replaceChildren(...(row ? partsOf(row) : [empty]));
 }
 
-/** @param {import('./decode.js').Row} row */
+/** @param {import('./rows.js').Row} row */
 function* partsOf(row) {
-  const lines = row.first === row.last ? `line ${row.first + 1}` : `lines ${row.first + 1}–${row.last + 1}`;
-  const head = el('h3', {}, `Message ${row.n}${row.bus && `, bus ${row.bus}`}: ${row.kind}`, el('small', {}, ` ${lines}`));
-  yield el('div', { class: 'title' }, head, row.remark ? el('p', { class: `remark ${row.tone}` }, row.remark) : null);
-  if (row.cmd >= 0) yield wordOf('Command', row.cmd, 'command');
-  if (row.cmd2 >= 0) yield wordOf('Second command', row.cmd2, 'command');
-  if (row.other >= 0) yield wordOf('Status of the other terminal', row.other, 'status');
-  if (row.status >= 0) yield wordOf('Status', row.status, 'status');
-  if (row.sent.length) yield wordsOf(row.cmd < 0 ? 'Words' : 'Data words on the bus', row.sent);
-  if (row.data.length) yield wordsOf('Data words of the terminal', row.data);
-  if (row.hand) yield el('p', { class: 'handed' }, el('b', {}, 'Handed over: '), row.hand);
-  if (!row.differs) return;
-  yield el('h4', {}, 'Terminal 2 answers otherwise');
-  if (row.status2 >= 0) yield wordOf('Status, terminal 2', row.status2, 'status');
-  else if (row.status >= 0) yield el('p', {}, 'It sends no status.');
-  if (row.data2.length) yield wordsOf('Data words, terminal 2', row.data2);
-  if (row.hand2 !== row.hand) yield el('p', {}, `It hands over: ${row.hand2 || 'nothing'}`);
+  const told = `Message ${row.number}, bus ${row.bus}: ${row.kind} ${row.address} ${placeOf(row)} ${row.words}`.trimEnd();
+  const head = el('h3', {}, told, el('small', {}, ` line ${row.line}`));
+  yield el('div', { class: 'title' }, head, el('p', { class: `remark ${toneOf(row)}` }, endingOf(row)));
+  yield wordOf('Command', row.command, 'command', '');
+  if (row.transmitter) yield wordOf('Command to the transmitter', row.transmitter, 'command', '');
+  yield* replyOf(row, '');
+  if (!row.other) return;
+  yield el('h4', {}, `Terminal 2: ${row.other.ended ? endingOf(row.other) : 'no message'}`);
+  yield* replyOf(row.other, ', terminal 2');
 }
 
-/** @param {string} name @param {number} bits @param {'command'|'status'} kind */
-function wordOf(name, bits, kind) {
-  const fields = fieldsOf(bits, kind), label = fields.map((it) => `${it.name} ${it.value}`).join(', ');
-  const told = kind === 'command' ? tellCommand(bits) : statusNames(bits).join(', ') || 'no bit set';
+/** @param {import('./rows.js').Message} it @param {string} whose */
+function* replyOf(it, whose) {
+  if (it.status) yield wordOf(`Status${whose}`, it.status, 'status', it.bits);
+  if (it.data) yield wordsOf(`Data words${whose}`, it.data);
+  if (it.handed) yield el('p', { class: 'handed' }, el('b', {}, `Handed over${whose}: `), it.handed);
+}
+
+/** @param {string} name @param {string} word four hexadecimal digits @param {'command'|'status'} kind @param {string} told */
+function wordOf(name, word, kind, told) {
+  const bits = parseInt(word, 16), fields = fieldsOf(bits, kind), label = fields.map((it) => `${it.name} ${it.value}`).join(', ');
   const strip = el('div', { class: 'bits', role: 'img', 'aria-label': label }, ...fields.map((it) => fieldOf(it, bits, kind)));
-  return el('section', { class: 'word' }, el('h4', {}, name, ' ', el('code', {}, hex4(bits)), el('small', {}, ` ${told}`)), strip);
+  return el('section', { class: 'word' }, el('h4', {}, name, ' ', el('code', {}, word), el('small', {}, ` ${told}`)), strip);
 }
 
 /** @param {import('./words.js').Field} it @param {number} bits @param {'command'|'status'} kind */
@@ -51,10 +51,13 @@ function fieldOf(it, bits, kind) {
     isUpright ? null : el('div', { class: 'value' }, it.value));
 }
 
-/** @param {string} name @param {number[]} words */
-function wordsOf(name, words) {
-  const rows = words.map((bits, n) => rowOf('td', [String(n + 1), el('code', {}, hex4(bits)),
-    el('code', {}, bits.toString(2).padStart(16, '0').replace(/(.{4})(?=.)/g, '$1 ')), String(bits), String((bits << 16) >> 16)]));
-  return el('section', { class: 'word' }, el('h4', {}, `${name} (${words.length})`),
+/** @param {string} name @param {string} data words with a space between two, and how many are left out */
+function wordsOf(name, data) {
+  const [, digits, more] = /^((?: ?[0-9a-f]{4})*)(.*)$/.exec(data) ?? [];
+  const rows = digits.split(' ').map((word, n) => {
+    const bits = parseInt(word, 16), binary = bits.toString(2).padStart(16, '0').replace(/(.{4})(?=.)/g, '$1 ');
+    return rowOf('td', [String(n + 1), el('code', {}, word), el('code', {}, binary), String(bits), String((bits << 16) >> 16)]);
+  });
+  return el('section', { class: 'word' }, el('h4', {}, `${name} (${rows.length}${more})`),
     tableOf(['No', 'hex', 'binary', 'unsigned', 'signed'], rows, 'datas'));
 }

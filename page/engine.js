@@ -68,6 +68,9 @@ export class Engine {
   /** @param {string} first @param {string} second @returns {Told} 0: the same terminal; 1: not, and the text is a script that shows it */
   compare(first, second) { return this.call('page_compare', [first, second], 4608, 0); }
 
+  /** @param {string} text @param {string} script @returns {Told} the text has a row for each message */
+  messages(text, script) { return this.call('page_messages', [text, script], 4096 + script.length * 4, 0); }
+
   /** @param {string} text @param {string} script @returns {Told} the text is its transcript */
   run(text, script) { return this.call('page_run', [text, script], 4096 + script.length * 2, script.split('\n').length + 1); }
 }

@@ -1,12 +1,15 @@
 /**
  * The list of messages. Only the rows in sight are drawn.
- * @typedef {import('./decode.js').Row} Row
+ * @typedef {import('./rows.js').Row} Row
  */
 import { el } from './dom.js';
-import { bitsSet, hex4, hexWords, statusNames } from './words.js';
+import { endingOf, placeOf, toneOf } from './rows.js';
 
 const ROW_HIGH = 26;
-export const HEADS = ['No', 'Bus', 'Kind', 'RT', 'SA / code', 'Count', 'Data', 'Status', 'Handed over', 'Remark'];
+export const HEADS = ['No', 'Line', 'Bus', 'Kind', 'RT', 'SA / code', 'Words', 'Ended', 'Data', 'Status', 'Handed over'];
+
+/** @param {import('./rows.js').Message} it @returns {string[]} the first cells of a row */
+export const cellsOf = (it) => [it.number, it.line, it.bus, it.kind, it.address, placeOf(it), it.words];
 
 export class MessageList {
   /** @param {HTMLElement} place @param {(row: Row|null) => void} chosen */
@@ -83,22 +86,26 @@ export class MessageList {
   row(row, n) {
     const cell = (/** @type {string} */ title, /** @type {any[]} */ ...inside) => el('span', { role: 'gridcell', title }, ...inside);
     // what terminal 2 has in the place of it
-    const apart = (/** @type {boolean} */ differs, /** @type {any[]} */ ...inside) =>
-      (row.differs && differs ? el('em', { class: 'apart', title: 'terminal 2 answers otherwise' }, ' ≠ ', ...inside) : null);
-    const data = hexWords([...row.sent, ...row.data]), others = hexWords(row.data2);
+    const told = (/** @type {(it: import('./rows.js').Message) => string} */ of, draw = (/** @type {string} */ text) => [text]) => {
+      const one = of(row), other = row.other ? of(row.other) : one;
+      return cell(one, ...draw(one), one === other ? null : el('em', { class: 'apart', title: 'terminal 2 answers otherwise' }, ' ≠ ', ...draw(other || 'none')));
+    };
     return el('div', {
-      id: `message-${n}`, class: `row ${row.tone}${n === this.at ? ' chosen' : ''}${row.differs ? ' differs' : ''}`, role: 'row',
+      id: `message-${n}`, class: `row ${toneOf(row)}${n === this.at ? ' chosen' : ''}`, role: 'row',
       'aria-rowindex': n + 2, 'aria-selected': String(n === this.at), 'data-at': String(n), style: `top:${n * ROW_HIGH}px`,
     },
-    ...[String(row.n), row.bus, row.kind, row.rt, row.sa, row.count].map((it) => cell('', it)),
-    cell(data, row.data.length ? el('u', {}, data) : data, apart(others !== hexWords(row.data), others || 'none')),
-    cell('', ...badged(row.status, ''), apart(row.status2 !== row.status, ...badged(row.status2, 'none'))),
-    cell(row.hand, row.hand, apart(row.hand2 !== row.hand, row.hand2 || 'nothing')), cell(row.remark, row.remark));
+    ...cellsOf(row).map((it) => cell('', it)), told(endingOf), told((it) => it.data), told(statusOf, badged), told((it) => it.handed));
   }
 }
 
-/** @param {number} status @param {string} none @returns {any[]} */
-const badged = (status, none) => (status < 0 ? [none] : [hex4(status), ...bitsSet(status).map((it) => el('b', { title: it[2] }, it[1]))]);
+/** @param {import('./rows.js').Message} it @returns {string} the status word, and the names of its bits */
+export const statusOf = (it) => `${it.status} ${it.bits}`.trimEnd();
+
+/** @param {string} status @returns {any[]} */
+function badged(status) {
+  const [word, ...bits] = status.split(' ');
+  return [word, ...bits.map((it) => el('b', {}, it))];
+}
 
 /** Does a message fit a word of the filter: `rt:5`, `sa:3`, `bus:b`, `no:7`, `error`, `-busy`?
  * @param {Row} row @param {string} word @returns {boolean} */
@@ -106,10 +113,9 @@ function fits(row, word) {
   if (word[0] === '-' && word.length > 1) return !fits(row, word.slice(1));
   const [, field, wanted] = /^(rt|sa|bus|no):(.+)$/.exec(word) ?? [];
   if (field) {
-    const value = { rt: row.rt, sa: row.sa, bus: row.bus, no: String(row.n) }[field] ?? '';
-    return value.toLowerCase().split('→').includes(wanted);
+    const value = { rt: row.address, sa: row.code ? `m${row.code}` : row.subaddress, bus: row.bus, no: row.number }[field] ?? '';
+    return value.toLowerCase() === wanted;
   }
-  const words = hexWords([...row.sent, ...row.data, ...(row.status < 0 ? [] : [row.status])]);
-  const told = [row.kind, row.tone, ...statusNames(row.status), row.remark, row.hand, row.differs ? 'differs' : '', words];
+  const told = [row.kind, endingOf(row), row.data, statusOf(row), row.handed, row.differs ? 'differs' : ''];
   return told.join(' ').toLowerCase().includes(word);
 }

@@ -199,11 +199,11 @@ class Page {
     tell('played', fault || (refused ? `${amount(refused, 'line')} refused` : lines), fault || refused ? 'bad' : '');
   }
 
-  /** @param {import('./decode.js').Row|null} row */
+  /** @param {import('./rows.js').Row|null} row */
   showMessage(row) {
-    const [first, last] = row ? [row.first, row.last].map((it) => this.expansion?.from[it] ?? it) : [-1, -1];
+    const line = row ? Number(row.line) - 1 : -1, shown = this.expansion?.from[line] ?? line;
     showDetails(byId('details'), row);
-    this.editor.show(first, last);
+    this.editor.show(shown, shown);
   }
 
   /** Lists the messages that fit the filter, and says how many they are. */

@@ -3,9 +3,10 @@
  */
 import { SUBADDRESSES } from './canon.js';
 import { el, rowOf, tableOf } from './dom.js';
-import { HEADS } from './list.js';
+import { HEADS, cellsOf, statusOf } from './list.js';
 import { writeRanges } from './ranges.js';
-import { MODES, has, hex4, hexWords, statusNames } from './words.js';
+import { endingOf, toneOf } from './rows.js';
+import { MODES, has, hex4, hexWords } from './words.js';
 
 const PRINTED = 2000; // messages and lines at most
 
@@ -29,16 +30,15 @@ function printedTerminal(t, name) {
   ];
 }
 
-/** @param {import('./decode.js').Row} row */
+/** @param {import('./rows.js').Row} row */
 function printedMessage(row) {
-  const told = (/** @type {number} */ status) => (status < 0 ? '' : `${hex4(status)} ${statusNames(status).join(', ')}`);
-  const status = told(row.status) + (row.differs ? ` ≠ ${told(row.status2) || 'none'}` : ''), data = hexWords([...row.sent, ...row.data]);
-  return rowOf('td', [String(row.n), row.bus, row.kind, row.rt, row.sa, row.count, data, status, row.hand, row.remark],
-    `${row.tone}${row.differs ? ' differs' : ''}`);
+  const told = (/** @type {(it: import('./rows.js').Message) => string} */ of) =>
+    of(row) + (row.other && of(row.other) !== of(row) ? ` ≠ ${of(row.other) || 'none'}` : '');
+  return rowOf('td', [...cellsOf(row), told(endingOf), told((it) => it.data), told(statusOf), told((it) => it.handed)], toneOf(row));
 }
 
 /** @param {HTMLElement} place @param {import('./canon.js').Terminal[]} terminals @param {string} verdict
- * @param {import('./decode.js').Row[]} rows @param {string[]} lines @param {string[]} answers @param {string[]} others */
+ * @param {import('./rows.js').Row[]} rows @param {string[]} lines @param {string[]} answers @param {string[]} others */
 export function drawPaper(place, terminals, verdict, rows, lines, answers, others) {
   const more = (/** @type {number} */ count) => (count > PRINTED ? [el('p', {}, `… and ${count - PRINTED} more`)] : []);
   const line = (/** @type {string} */ text, /** @type {number} */ n) => {

@@ -3,11 +3,10 @@
  * `differs` is the first line that the two terminals answer differently, or -1.
  * @typedef {{first: string, second: string|null, script: string}} Job
  * @typedef {{fault: string, faultLine: number, transcript: string, answers: string[], second: string[]|null,
- *   rows: import('./decode.js').Row[], differs: number, ms: number}} Result
+ *   rows: import('./rows.js').Row[], differs: number, ms: number}} Result
  */
-import { readCanon } from './canon.js';
-import { decode } from './decode.js';
 import { Engine } from './engine.js';
+import { rowsOf } from './rows.js';
 
 const AT_ONCE = 3000; // scripts with more lines are played in the worker
 const PART = 1000; // how many messages the worker gives at a time: other work of the page comes in between
@@ -21,16 +20,14 @@ function playAll(engine, { first, second, script }) {
   const from = lines.findIndex((line) => line !== '' && line[0] !== '#');
   const play = (/** @type {string} */ text) => {
     // a last line without its line feed would be played behind the read that tells that nothing follows
-    const { fault, line, text: transcript, ends } = engine.run(text, `${lines.join('\n')}\n`);
+    const whole = `${lines.join('\n')}\n`, { fault, line, text: transcript, ends } = engine.run(text, whole);
     const answers = lines.map((_, at) => transcript.slice(ends[at - from - 1] ?? 0, ends[at - from] ?? 0).trimEnd());
-    return { fault, line, transcript, answers };
+    return { fault, line, transcript, answers, messages: engine.messages(text, whole).text };
   };
   const one = play(first), other = second === null ? one : play(second);
-  // lines behind a refused one are not played
-  const end = one.line ? one.line - 1 : one.fault ? 0 : lines.length, { address, broadcast } = readCanon(first);
   return {
     fault: one.fault, faultLine: one.line, transcript: one.transcript, answers: one.answers, second: second === null ? null : other.answers,
-    rows: decode(lines.slice(0, end), one.answers, other.answers, address, broadcast),
+    rows: rowsOf(one.messages, second === null ? null : other.messages),
     differs: one.answers.findIndex((answer, n) => answer !== other.answers[n]), ms: performance.now() - start,
   };
 }

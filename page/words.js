@@ -61,21 +61,6 @@ export const expectedWords = (c) => (c.transmit ? 0 : dataWords(c));
 /** @param {Command} c @returns {number} how many data words a reply has */
 export const repliedWords = (c) => (c.transmit ? dataWords(c) : 0);
 
-/** @param {number} status a status word, or -1 for none @returns {[number, string, string][]} the bits that are set */
-export const bitsSet = (status) => (status < 0 ? [] : STATUS_BITS.filter(([mask]) => status & mask));
-/** @param {number} status @returns {string[]} their names for people */
-export const statusNames = (status) => bitsSet(status).map((row) => row[2]);
-
-/** @param {number} word @returns {string} a command in words */
-export function tellCommand(word) {
-  const c = commandOf(word), to = c.address === 31 ? 'all' : String(c.address), count = countOf(c);
-  if (c.mode) return `mode ${to} ${c.low}: ${modeName(c.low)}`;
-  return `${c.transmit ? 'transmit' : 'receive'} ${to} subaddress ${c.subaddress}, ${count} word${count === 1 ? '' : 's'}`;
-}
-
-/** @param {number} bits @returns {number} the right parity bit: the ones of a word and of its parity bit are odd in number */
-export const parityOf = (bits) => 1 - bits.toString(2).replace(/0/g, '').length % 2;
-
 /** @param {number} bits @param {'command'|'status'} kind @returns {Field[]} the fields of a word, from bit 15 on */
 export function fieldsOf(bits, kind) {
   const c = commandOf(bits), to = kind === 'command' && c.address === 31 ? '31, broadcast' : String(c.address);

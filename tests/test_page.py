@@ -1,6 +1,7 @@
 """The page in a headless Chromium: what is typed, what it answers beside the programs, hostile texts, and how long it takes."""
 
 import base64
+import csv
 import gzip
 import re
 import time
@@ -38,6 +39,26 @@ words = [1, 255]
 FIELDS = {"address": "9", "receive-3": "1-2, 8", "transmit-3": "2", "broadcast": True, "own-code-19": True, "bit": "beef",
           "initial-3": "0001 00ff"}  # fmt: skip
 SCRIPT = "A c 4862\nA d 1111\nA d 2222\nA gap\nslot\nA c 4c62\nA gap\nslot\nslot\nslot\nB c 4c13\nB gap\nslot\nslot\n"
+# a profile, a script for it in which messages end in each way, and these ways
+ENDINGS = """address = 5
+[[rule]]
+direction = "receive"
+subaddresses = 1
+counts = "1-4"
+[[rule]]
+direction = "transmit"
+subaddresses = 1
+counts = "1-4"
+"""
+ENDED = "".join(f"{it}\n" for it in (
+    *("A c 2822", "A d 1111", "A d 2222", "A gap", "slot"), *("A c 2c42", "A gap", "slot"), *("A c 2822", "A d 1111", "A gap", "slot"),
+    *("A c 2822", "A d 1111", "B c 2c02", "B gap", "slot"), *("A c 2c22", "A gap", "slot", "B c 2c02", "B gap", "slot"),
+    *("flag busy 1", "A c 2c22", "A gap", "slot", "flag busy 0"), *("A c 3021", "A d 0001", "A gap", "A c 3000"),
+    *("A c 2c02", "A gap", "A c 2c02", "slot"), *("A c 2c04", "A gap", "slot", "B c 2c02", "B gap", "slot"), *("A c 2822", "A d 0001 0", "A gap"),
+    "A c 2822"))  # fmt: skip
+ENDS = {("done", ""), ("illegal", ""), ("in error", "wrong word count"), ("in error", "invalid word or noise"), ("superseded", ""),
+        ("done", "reply dropped by a command on the other bus"), ("busy", ""), ("other", ""), ("ignored", "during a reply"),
+        ("done", "transmitter shut down"), ("open", "")}  # fmt: skip
 HOSTILE = ['<img src=x onerror="window.hit=1">', '"><script>window.hit=1</script>', "\u202e\0\ufeff", "9" * 5000, "-1", "1e3", "1-", "4-1",
            "1,,2", "ffff " * 80, "{{}}", "';window.hit=1;'", "１２", "A c 2862\u2028slot", "\n\n\n", "٣", "x" * (1 << 20)]  # fmt: skip
 PROFILES = [it for it in sorted(TOP.glob("examples/profiles/*.toml")) if (TOP / f"examples/canonical/{it.stem}.rt1553").exists()]
@@ -53,6 +74,11 @@ EXPANDED = """(text, messages) => {
     const { expansion, script, result, messageEditor } = rt1553;
     return { faults: expansion.faults, script, transcript: result.transcript, beside: messageEditor.answers };
 }"""
+# the rows that the page gets, by the names of their fields
+ROWS = """(text, script) => {
+    const told = rt1553.engine.messages(text, script).text.split('\\n').slice(0, -1).map((line) => line.split(','));
+    return told.map((it) => Object.fromEntries(%s.map((name, n) => [name, it[n]])));
+}""" % (COLUMNS := "number line bus kind address subaddress code words command transmitter ended why data status bits handed".split())
 # what the page gives for a canonical text and a script, bytes that are UTF-8
 PLAYED = """(text, script) => {
     const told = rt1553.engine.run(text, script);
@@ -109,8 +135,8 @@ def test_profile_and_script_are_typed(browser, page, shipped, tmp_path):
     assert (given.status, browser.value("rt1553.result.transcript")) == (0, given.output.decode())
     beside = re.sub(r"\s*\n\s*", "|", browser.value("document.querySelector('#script-editor .beside').innerText"))
     assert "hand receive own 03 1111 2222|A s 4800" in beside
-    rows = browser.value("rt1553.result.rows.map((it) => `${it.bus} ${it.kind} ${it.rt} ${it.sa} ${it.status.toString(16)}`)")
-    assert rows == ["A BC→RT 9 3 4800", "A RT→BC 9 3 4800", "B mode 9 m19 4800"]
+    rows = re.sub(r"\s*\n\s*", "|", browser.value("document.querySelector('#rows .space').innerText"))
+    assert rows == "1|1|A|rx|9|3|2|done|1111 2222|4800|receive own 03 1111 2222|2|6|A|tx|9|3|2|done|1111 2222|4800|3|11|B|mode|9|mode 19|done|beef|4800"
 
 
 def test_what_is_wrong_stands_at_its_field(browser):
@@ -147,6 +173,43 @@ def test_scripts_as_the_program_plays_them(browser, shipped, tmp_path):
         wanted = run(shipped.rt1553, "run", text, script)
         given = browser.call(PLAYED, text.read_text(encoding="utf-8"), script.read_text(encoding="utf-8"))
         assert given == [wanted.status, wanted.output.decode(), wanted.errors.decode()], (text.name, script.name)
+
+
+def printed_rows(program, text, script):
+    """The rows that `rt1553-tool messages` prints for a script, each by the names of its columns, and whether it plays the whole script."""
+    told = run(program, "messages", "--format", "csv", text, script)
+    return list(csv.DictReader(told.output.decode().splitlines())), told.status == 0
+
+
+def test_rows_as_the_program_prints_them(browser, shipped):
+    """The rows for each script of the examples and each canonical text; where a line is refused, messages that are open there follow."""
+    for text in CANONICAL:
+        for script in SCRIPTS:
+            wanted, is_whole = printed_rows(shipped.tool, text, script)
+            given = browser.call(ROWS, text.read_text(encoding="utf-8"), script.read_text(encoding="utf-8"))
+            assert (given if is_whole else given[: len(wanted)]) == wanted, (text.name, script.name)
+            assert len(given) <= len(wanted) + 2
+
+
+def test_rows_of_each_ending(browser, shipped, tmp_path):
+    """The list has a row for each message as the program prints it, however it ended."""
+    text = canonical(shipped.rt1553, tmp_path, ENDINGS)
+    write_files(tmp_path, {"text": text, "script": ENDED})
+    wanted, is_whole = printed_rows(shipped.tool, tmp_path / "text", tmp_path / "script")
+    assert is_whole and {(it["ended"], it["why"]) for it in wanted} == ENDS
+    browser.call(BESIDE, text, ENDED)
+    shown = browser.value("rt1553.list.seen.map(({ n, differs, other, ...told }) => told)")
+    assert shown == sorted(wanted, key=lambda it: int(it["line"]))
+
+
+def test_messages_of_two_terminals(browser, shipped, tmp_path):
+    """A message that two terminals end otherwise is marked, and shows how each ends it."""
+    texts = [canonical(shipped.rt1553, tmp_path, it) for it in (ENDINGS, ENDINGS.replace('"transmit"', '"receive"'))]
+    shown = browser.call("""(first, second) => {
+        rt1553.restore({ first, second, script: 'A c 2c21\\nA gap\\nslot\\nslot\\nA c 2c02\\nA gap\\nslot\\n', messages: '', mode: 'script' });
+        return rt1553.list.seen.map((it) => [it.ended, it.differs, it.other?.ended ?? null]);
+    }""", *texts)  # fmt: skip
+    assert shown == [["done", True, "illegal"], ["done", True, "done"]]
 
 
 def test_answers_stand_beside_their_lines(browser):

@@ -22,7 +22,7 @@ use Rattle.message_rows.specs.declared.commands.MessageForm.TheVariants.{Receive
 use Rattle.message_rows.specs.declared.field.Field.{Field}
 use Rattle.message_rows.specs.declared.field.Field.TheVariants as field
 use Rattle.message_rows.specs.Commands.{form_by}
-use Rattle.message_rows.specs.inner.StatusBits.{is_bit_set, status_bits}
+use Rattle.message_rows.specs.StatusBits.{is_bit_set, named_bits}
 
 -- a text, or nothing
 abbrev pub text_or_none : Option (List ℕ) → List ℕ
@@ -75,20 +75,20 @@ with_why text None = text
 with_why text (Some reason) = text ++ (codes ": " ++ reason)
 
 -- the subaddress of a command, or its mode code
-abbrev pub place_of : ℕ → ℕ
-place_of c = if is_mode c then code_of c else subaddress_of c
+abbrev pub place_number : ℕ → ℕ
+place_number c = if is_mode c then code_of c else subaddress_of c
 
-abbrev pub place_text : ℕ → List ℕ
-place_text c = (if is_mode c then codes "mode " else []) ++ decimal (place_of c)
+abbrev pub place_shown : ℕ → List ℕ
+place_shown c = (if is_mode c then codes "mode " else []) ++ decimal (place_number c)
 
 -- an address: 31 is that of all terminals
-abbrev pub address_text : ℕ → List ℕ
-address_text n = if nat_eq n 31 then codes "all" else decimal n
+abbrev pub address_told : ℕ → List ℕ
+address_told n = if nat_eq n 31 then codes "all" else decimal n
 
 -- the transmitter of a transfer: its address and place
-abbrev pub transmitter_text : Option ℕ → List ℕ
-transmitter_text None = []
-transmitter_text (Some c) = decimal (address_of c) ++ (codes " " ++ place_text c)
+abbrev pub transmitter_told : Option ℕ → List ℕ
+transmitter_told None = []
+transmitter_told (Some c) = decimal (address_of c) ++ (codes " " ++ place_shown c)
 
 abbrev pub number_or_none : Option ℕ → List ℕ
 number_or_none None = []
@@ -104,80 +104,80 @@ spaced [] = []
 spaced (word ∷ words) = digits_of word ++ flat_map word_field words
 
 -- data words, and how many are left out
-abbrev pub words_text : List ℕ → ℕ → List ℕ
-words_text words left_out = spaced words ++ (if nat_lt 0 left_out then codes " and " ++ (decimal left_out ++ codes " more") else [])
+abbrev pub words_told : List ℕ → ℕ → List ℕ
+words_told words left_out = spaced words ++ (if nat_lt 0 left_out then codes " and " ++ (decimal left_out ++ codes " more") else [])
 
 abbrev pub received_front : Bool → List ℕ
 received_front broadcast = if broadcast then codes "receive broadcast " else codes "receive own "
 
 -- what was handed over, as in a transcript
-abbrev pub handing_text : Handing → List ℕ
-handing_text (HandsReceived broadcast subaddress words) =
+abbrev pub handing_told : Handing → List ℕ
+handing_told (HandsReceived broadcast subaddress words) =
     received_front broadcast ++ (decimal_digits subaddress ++ flat_map word_field words)
-handing_text HandsSynchronize = codes "sync"
-handing_text (HandsSynchronizeWith word) = codes "sync" ++ word_field word
-handing_text HandsSelfTest = codes "self-test"
-handing_text HandsBusControl = codes "bus-control"
+handing_told HandsSynchronize = codes "sync"
+handing_told (HandsSynchronizeWith word) = codes "sync" ++ word_field word
+handing_told HandsSelfTest = codes "self-test"
+handing_told HandsBusControl = codes "bus-control"
 
-abbrev pub handed_text : Option Handing → List ℕ
-handed_text None = []
-handed_text (Some handing) = handing_text handing
+abbrev pub handed_told : Option Handing → List ℕ
+handed_told None = []
+handed_told (Some handing) = handing_told handing
 
 -- the name of the bit of this place value, if it is set: behind a space, if something stands before it
-abbrev pub bit_text : Bool → ℕ → ℕ → List ℕ → List ℕ
-bit_text behind word place name =
+abbrev pub bit_named : Bool → ℕ → ℕ → List ℕ → List ℕ
+bit_named behind word place name =
     if is_bit_set word place then (if behind || nat_lt 0 (word % 2048 / place / 2) then 32 ∷ name else name) else []
 
 -- the names of the bits of a status word that are set, with a space between two
-abbrev pub bits_text : Bool → ℕ → List ℕ
-bits_text behind word = flat_map (λ bit. bit_text behind word bit.0 bit.1) status_bits
+abbrev pub bits_told : Bool → ℕ → List ℕ
+bits_told behind word = flat_map (λ bit. bit_named behind word bit.0 bit.1) named_bits
 
 abbrev pub bits_or_none : Option ℕ → List ℕ
 bits_or_none None = []
-bits_or_none (Some word) = bits_text false word
+bits_or_none (Some word) = bits_told false word
 
-abbrev pub status_text : Option ℕ → List ℕ
-status_text None = []
-status_text (Some word) = digits_of word ++ bits_text true word
+abbrev pub status_told : Option ℕ → List ℕ
+status_told None = []
+status_told (Some word) = digits_of word ++ bits_told true word
 
 -- what a field says
-abbrev pub field_text : Field → List ℕ
-field_text (field.Text text) = text_or_none (option_map (λ t. t.now) text)
-field_text (field.Number n) = decimal n
-field_text (field.Small n) = number_or_none n
-field_text (field.Address n) = address_text n
-field_text (field.Place c) = place_text c
-field_text (field.Transmitter c) = transmitter_text c
-field_text (field.End m) = with_why (end_name m.now.state.«end») (why m.now.state.«end» m.now.state.unsent)
-field_text (field.Words m) = words_text m.now.words.items m.now.left_out
-field_text (field.Handed a) = handed_text (handed_in (shown_copy a.now))
-field_text (field.Digits word) = digits_or_none word
-field_text (field.Bits word) = bits_or_none word
-field_text (field.Status word) = status_text word
+abbrev pub field_told : Field → List ℕ
+field_told (field.Text text) = text_or_none (option_map (λ t. t.now) text)
+field_told (field.Number n) = decimal n
+field_told (field.Small n) = number_or_none n
+field_told (field.Address n) = address_told n
+field_told (field.Place c) = place_shown c
+field_told (field.Transmitter c) = transmitter_told c
+field_told (field.End m) = with_why (end_name m.now.state.«end») (why m.now.state.«end» m.now.state.unsent)
+field_told (field.Words m) = words_told m.now.words.items m.now.left_out
+field_told (field.Handed a) = handed_told (handed_in (shown_copy a.now))
+field_told (field.Digits word) = digits_or_none word
+field_told (field.Bits word) = bits_or_none word
+field_told (field.Status word) = status_told word
 
 -- a text that is no name has at most 400 bytes, as what any other field says
-abbrev pub IsShort : Field → Type 0
-IsShort (field.Text text) = length (text_or_none (option_map (λ t. t.now) text)) ≤ 400
-IsShort _ = ⊤
+abbrev pub IsShortField : Field → Type 0
+IsShortField (field.Text text) = length (text_or_none (option_map (λ t. t.now) text)) ≤ 400
+IsShortField _ = ⊤
 
 -- the fields of the row of a message, as a table without names has them
-abbrev pub row_fields : View → List (List ℕ)
-row_fields m =
+abbrev pub fields_told : View → List (List ℕ)
+fields_told m =
     let c = m.state.command in
     decimal m.number ∷ decimal m.place ∷ bus_letter m.state.bus ∷ form_name (form_by m.state.second c)
-    ∷ address_text (address_of c) ∷ decimal (subaddress_of c)
+    ∷ address_told (address_of c) ∷ decimal (subaddress_of c)
     ∷ number_or_none (if is_mode c then Some (code_of c) else None) ∷ number_or_none (if is_mode c then None else Some (count_of c))
     ∷ digits_of c ∷ digits_or_none m.state.second
     ∷ end_name m.state.«end» ∷ text_or_none (why m.state.«end» m.state.unsent)
-    ∷ words_text m.words m.left_out ∷ digits_or_none m.state.status ∷ bits_or_none m.state.status ∷ handed_text m.handed ∷ []
+    ∷ words_told m.words m.left_out ∷ digits_or_none m.state.status ∷ bits_or_none m.state.status ∷ handed_told m.handed ∷ []
 
 abbrev pub comma_first : List ℕ → List ℕ
 comma_first text = 44 ∷ text
 
-abbrev pub joined : List (List ℕ) → List ℕ
-joined [] = []
-joined (text ∷ texts) = text ++ flat_map comma_first texts
+abbrev pub comma_joined : List (List ℕ) → List ℕ
+comma_joined [] = []
+comma_joined (text ∷ texts) = text ++ flat_map comma_first texts
 
 -- the row of a message as a line
 abbrev pub row_line : View → List ℕ
-row_line m = joined (row_fields m) ++ codes "\n"
+row_line m = comma_joined (fields_told m) ++ codes "\n"

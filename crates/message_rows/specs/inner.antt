@@ -1,3 +1,2 @@
 -- What the contracts of private functions speak of.
-pub mod StatusBits
 pub mod Table

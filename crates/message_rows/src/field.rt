@@ -6,7 +6,7 @@ ghost use Rattle.terminal_rules.specs.Out.{HandsReceived};
 ghost use Rattle.bus_terminal.specs.Answer.{shown_copy};
 ghost use Rattle.script_lines.specs.Transcript.{word_field};
 ghost use Rattle.terminal_messages.specs.Ends.{handed_in};
-ghost use Rattle.message_rows.specs.Texts.{bit_text, received_front, place_text, spaced, words_text, handing_text, handed_text, bits_text, transmitter_text, with_why, end_name, why, status_text, field_text, IsShort};
+ghost use Rattle.message_rows.specs.Texts.{bit_named, received_front, place_shown, spaced, words_told, handing_told, handed_told, bits_told, transmitter_told, with_why, end_name, why, status_told, field_told, IsShortField};
 
 use crate::status::{STATUS_BITS, is_bit_set, status_bit};
 use crate::text::{end_name, place_of, why};
@@ -62,7 +62,7 @@ fn push_decimal(text: &mut RowText, number: u64)
 /// Adds the subaddress of a command, or its mode code.
 fn push_place(text: &mut RowText, command: Command)
     requires { array_string_len text.old + 45 ≤ 8192 }
-    ensures bytes { text.new.bytes ≡ text.old.bytes ++ place_text command }
+    ensures bytes { text.new.bytes ≡ text.old.bytes ++ place_shown command }
     ensures len { array_string_len text.new ≤ array_string_len text.old + 45 }
 {
     if command.is_mode() {
@@ -74,7 +74,7 @@ fn push_place(text: &mut RowText, command: Command)
 /// Adds the address of a command, and its subaddress or mode code.
 fn push_transmitter(text: &mut RowText, command: Command)
     requires { array_string_len text.old + 86 ≤ 8192 }
-    ensures bytes { text.new.bytes ≡ text.old.bytes ++ transmitter_text (Some command) }
+    ensures bytes { text.new.bytes ≡ text.old.bytes ++ transmitter_told (Some command) }
     ensures len { array_string_len text.new ≤ array_string_len text.old + 86 }
 {
     push_decimal(text, u64::from(command.address()));
@@ -110,7 +110,7 @@ fn push_spaced(text: &mut RowText, words: &[u16])
 /// Adds data words, and how many are left out.
 fn push_words(text: &mut RowText, words: &[u16], left_out: u64)
     requires { array_string_len text.old + (5 * length words.now + 50) ≤ 8192 }
-    ensures bytes { text.new.bytes ≡ text.old.bytes ++ words_text words.now left_out }
+    ensures bytes { text.new.bytes ≡ text.old.bytes ++ words_told words.now left_out }
     ensures len { array_string_len text.new ≤ array_string_len text.old + (5 * length words.now + 50) }
 {
     push_spaced(text, words);
@@ -136,7 +136,7 @@ fn received_front(broadcast: bool) -> &'static str
 /// Adds what was received.
 fn push_received(text: &mut RowText, broadcast: bool, subaddress: u8, words: &[u16])
     requires room { array_string_len text.old + (20 + 5 * length words.now) ≤ 8192 }
-    ensures bytes { text.new.bytes ≡ text.old.bytes ++ handing_text (HandsReceived broadcast subaddress words.now) }
+    ensures bytes { text.new.bytes ≡ text.old.bytes ++ handing_told (HandsReceived broadcast subaddress words.now) }
     ensures len { array_string_len text.new ≤ array_string_len text.old + (20 + 5 * length words.now) }
 {
     text.push_str(received_front(broadcast));
@@ -147,7 +147,7 @@ fn push_received(text: &mut RowText, broadcast: bool, subaddress: u8, words: &[u
 /// Adds what was handed over, as it stands in a transcript behind `hand `.
 fn push_handed(text: &mut RowText, handed: &CopiedAnswer)
     requires { array_string_len text.old + 180 ≤ 8192 }
-    ensures bytes { text.new.bytes ≡ text.old.bytes ++ handed_text (handed_in (shown_copy handed.now)) }
+    ensures bytes { text.new.bytes ≡ text.old.bytes ++ handed_told (handed_in (shown_copy handed.now)) }
     ensures len { array_string_len text.new ≤ array_string_len text.old + 180 }
 {
     match handed {
@@ -172,7 +172,7 @@ fn push_bit(text: &mut RowText, word: u16, is_behind: bool, place: u16, name: &s
     requires place { 0 < place }
     requires room { array_string_len text.old + 16 ≤ 8192 }
     requires name { length name.now ≤ 15 }
-    ensures bytes { text.new.bytes ≡ text.old.bytes ++ bit_text is_behind word place name.now }
+    ensures bytes { text.new.bytes ≡ text.old.bytes ++ bit_named is_behind word place name.now }
     ensures len { array_string_len text.new ≤ array_string_len text.old + 16 }
 {
     if is_bit_set(word, place) {
@@ -186,7 +186,7 @@ fn push_bit(text: &mut RowText, word: u16, is_behind: bool, place: u16, name: &s
 /// Adds the bits that are set, with a space between two; behind a word also before the first.
 fn push_bits(text: &mut RowText, word: u16, is_behind: bool)
     requires { array_string_len text.old + 176 ≤ 8192 }
-    ensures bytes { text.new.bytes ≡ text.old.bytes ++ bits_text is_behind word }
+    ensures bytes { text.new.bytes ≡ text.old.bytes ++ bits_told is_behind word }
     ensures len { array_string_len text.new ≤ array_string_len text.old + 176 }
 {
     for index in 0..STATUS_BITS {
@@ -198,7 +198,7 @@ fn push_bits(text: &mut RowText, word: u16, is_behind: bool)
 /// Adds a status word, and its bits.
 fn push_status(text: &mut RowText, word: u16)
     requires { array_string_len text.old + 180 ≤ 8192 }
-    ensures bytes { text.new.bytes ≡ text.old.bytes ++ status_text (Some word) }
+    ensures bytes { text.new.bytes ≡ text.old.bytes ++ status_told (Some word) }
     ensures len { array_string_len text.new ≤ array_string_len text.old + 180 }
 {
     push_word(text, word);
@@ -219,10 +219,10 @@ fn push_end(text: &mut RowText, message: &KeptMessage)
 }
 
 /// Adds what a field says: at most 400 bytes, if it is no longer text.
-pub fn push_field(text: &mut RowText, field: &Field<'_>)
+pub fn push_field_text(text: &mut RowText, field: &Field<'_>)
     requires room { array_string_len text.old + 400 ≤ 8192 }
-    requires short { IsShort field.now }
-    ensures bytes { text.new.bytes ≡ text.old.bytes ++ field_text field.now }
+    requires short { IsShortField field.now }
+    ensures bytes { text.new.bytes ≡ text.old.bytes ++ field_told field.now }
     ensures len { array_string_len text.new ≤ array_string_len text.old + 400 }
 {
     match *field {
@@ -249,14 +249,14 @@ pub fn push_field(text: &mut RowText, field: &Field<'_>)
 }
 
 impl fmt::Display for Field<'_> {
-    ghost output = { λ field. Some (field_text field) };
+    ghost output = { λ field. Some (field_told field) };
 
     fn fmt<W: fmt::Write>(&self, f: &mut fmt::Formatter<W>) -> fmt::Result {
         if let Field::Text(told) = *self {
             return f.write_str(told.unwrap_or(""));
         }
         let mut text = RowText::new();
-        push_field(&mut text, self);
+        push_field_text(&mut text, self);
         f.write_str(text.as_str())
     }
 }

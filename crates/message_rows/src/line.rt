@@ -2,24 +2,24 @@
 ghost use Rattle.std.specs.Prelude.{◌≡◌, ◌≤◌, ◌+◌, ◌*◌, ◌++◌, length, map, All};
 ghost use Rattle.arrayvec.specs.ArrayString.{array_string_len};
 ghost use Rattle.terminal_messages.specs.Shown.{shown_message};
-ghost use Rattle.message_rows.specs.Texts.{field_text, IsShort, joined, row_line};
+ghost use Rattle.message_rows.specs.Texts.{field_told, IsShortField, comma_joined, row_line};
 
-use crate::field::{Field, RowText, push_field};
+use crate::field::{Field, RowText, push_field_text};
 use crate::table::{NAMELESS, fields_of};
 use terminal_messages::KeptMessage;
 
 /// Adds fields with a comma between two.
 fn push_fields(text: &mut RowText, fields: &[Field<'_>])
     requires room { array_string_len text.old + 401 * length fields.now ≤ 8192 }
-    requires short { All IsShort fields.now }
-    ensures bytes { text.new.bytes ≡ text.old.bytes ++ joined (map field_text fields.now) }
+    requires short { All IsShortField fields.now }
+    ensures bytes { text.new.bytes ≡ text.old.bytes ++ comma_joined (map field_told fields.now) }
     ensures len { array_string_len text.new ≤ array_string_len text.old + 401 * length fields.now }
 {
     for index in 0..fields.len() {
         if index > 0 {
             text.push_str(",");
         }
-        push_field(text, &fields[index]);
+        push_field_text(text, &fields[index]);
     }
 }
 

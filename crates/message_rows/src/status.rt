@@ -1,6 +1,6 @@
 //! The bits of status words by name.
 ghost use Rattle.std.specs.Prelude.{◌≡◌, ◌≤◌, ◌<◌, ◌+◌, ◌++◌, ◌∷◌, [], length, take};
-ghost use Rattle.message_rows.specs.inner.StatusBits.{is_bit_set, status_bits};
+ghost use Rattle.message_rows.specs.StatusBits.{is_bit_set, named_bits};
 
 /// How many bits stand behind the address.
 pub const STATUS_BITS: usize = 11;
@@ -8,7 +8,7 @@ pub const STATUS_BITS: usize = 11;
 /// The bit of this index behind the address, from 0, by its place value, as `words` of `rt1553-tool` names it.
 pub fn status_bit(index: usize) -> (u16, &'static str)
     requires { index < 11 }
-    ensures bit { take (index + 1) status_bits ≡ take index status_bits ++ (result.0, result.1.now) ∷ [] }
+    ensures bit { take (index + 1) named_bits ≡ take index named_bits ++ (result.0, result.1.now) ∷ [] }
     ensures place { 0 < result.0 }
     ensures name { length result.1.now ≤ 15 }
 {

@@ -2,7 +2,7 @@
 ghost use Rattle.std.specs.Prelude.{◌≡◌, map, take, All, IfOk};
 ghost use Rattle.csv.specs.Writing.{row_text};
 ghost use Rattle.terminal_messages.specs.Shown.{shown_message};
-ghost use Rattle.message_rows.specs.Texts.{field_text, row_fields, IsShort};
+ghost use Rattle.message_rows.specs.Texts.{field_told, fields_told, IsShortField};
 ghost use Rattle.message_rows.specs.inner.Table.{rows_writer};
 
 use crate::commands::MessageCommands;
@@ -66,8 +66,8 @@ pub fn rows_header(alloc: Global, with_names: bool) -> Result<Vec<u8>, AllocErro
 
 /// The fields of a message, with its name.
 pub fn fields_of<'a>(message: &'a KeptMessage, name: Option<&'a str>) -> [Field<'a>; NAMED]
-    ensures fields { map field_text (take 16 result) ≡ row_fields (shown_message message.now) }
-    ensures short { All IsShort (take 16 result) }
+    ensures fields { map field_told (take 16 result) ≡ fields_told (shown_message message.now) }
+    ensures short { All IsShortField (take 16 result) }
 {
     let commands = MessageCommands::of(message);
     let command = commands.command;

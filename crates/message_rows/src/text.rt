@@ -3,7 +3,7 @@ ghost use Rattle.std.specs.Prelude.{◌≡◌, ◌≤◌, length, IfSome, Some, 
 ghost use Rattle.std.specs.Option.{option_map};
 ghost use Rattle.bus_word.specs.Command.{is_mode, count_of};
 ghost use Rattle.script_lines.specs.Transcript.{bus_letter};
-ghost use Rattle.message_rows.specs.Texts.{form_name, end_name, cause_name, ignore_name, why, place_of};
+ghost use Rattle.message_rows.specs.Texts.{form_name, end_name, cause_name, ignore_name, why, place_number};
 
 use crate::commands::{MessageCommands, MessageForm};
 use crate::field::{Field, texts_of};
@@ -97,7 +97,7 @@ pub fn why(message: &KeptMessage) -> Option<&'static str>
 
 /// The subaddress of a command of data words, or its mode code.
 pub fn place_of(command: Command) -> u8
-    ensures { result ≡ place_of command }
+    ensures { result ≡ place_number command }
 {
     if command.is_mode() {
         command.code()

@@ -1,5 +1,5 @@
 -- The rows of the messages of a script.
-use Rattle.std.specs.Prelude.{◌≡◌, ℕ, ◌<◌, Bool, true, false, List, [], length, take, map, get_or, Some, None}
+use Rattle.std.specs.Prelude.{◌≡◌, ℕ, ◌<◌, List, [], length, map, get_or, Some, None}
 use Rattle.std.specs.List.{flat_map}
 use Rattle.bus_legal.specs.Description.{Description}
 use Rattle.bus_legal.specs.Parts.{Parts, description_in}
@@ -17,8 +17,8 @@ use Rattle.drawing_boxes.specs.Refused.{events_on}
 use Rattle.message_rows.specs.Texts.{row_line}
 
 -- the number of the line of an event, by how many events of the script come before it
-abbrev pub event_line : List ℕ → ℕ → ℕ
-event_line script n = get_or (map (λ it. it.line) (events_on 0 (lines_of script))) n 0
+abbrev pub line_of_event : List ℕ → ℕ → ℕ
+line_of_event script n = get_or (map (λ it. it.line) (events_on 0 (lines_of script))) n 0
 
 -- the rows of messages as they are told
 abbrev pub rows_told : List View → List ℕ
@@ -26,7 +26,7 @@ rows_told = flat_map row_line
 
 -- the rows of the messages that a terminal of this description has in a script, up to the first fault of it
 abbrev pub script_rows : Description → List ℕ → List ℕ
-script_rows P script = rows_told (map (told_view P (event_line script)) (messages_of P (reading 0 (lines_of script)).events))
+script_rows P script = rows_told (map (told_view P (line_of_event script)) (messages_of P (reading 0 (lines_of script)).events))
 
 -- These are the rows of the terminal of a text in a script: of a description of which the same can be reached.
 pub record ListsMessages (text script rows : List ℕ) : Type 0 where
@@ -34,7 +34,7 @@ pub record ListsMessages (text script rows : List ℕ) : Type 0 where
   pub description : Description
   pub of : Reaches text value
   pub same : reach description ≡ description_in value
-  pub rows : rows ≡ script_rows description script
+  pub gives : rows ≡ script_rows description script
 
 -- the rows of a script without fault
 pub record ListsAll (text script rows : List ℕ) : Type 0 where

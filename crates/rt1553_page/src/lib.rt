@@ -18,7 +18,7 @@ mod room;
 mod script;
 
 use bus_script::RunFault;
-use listing::list_messages;
+use listing::list_rows;
 use room::Room;
 use rt1553::{EngineFault, Verdict, compare_canonical, load_canonical, run_canonical};
 use rt1553_live::{PlainFault, event_lines, put_all, tell_fault};
@@ -160,7 +160,7 @@ pub extern "C" fn page_messages(
             return REFUSED;
         }
     };
-    let (ended, listed) = list_messages(normal, script, to);
+    let (ended, listed) = list_rows(normal, script, to);
     if listed.is_over {
         return NO_ROOM;
     }
