@@ -52,12 +52,12 @@ counts = "1-4"
 """
 ENDED = "".join(f"{it}\n" for it in (
     *("A c 2822", "A d 1111", "A d 2222", "A gap", "slot"), *("A c 2c42", "A gap", "slot"), *("A c 2822", "A d 1111", "A gap", "slot"),
-    *("A c 2822", "A d 1111", "B c 2c02", "B gap", "slot"), *("A c 2c22", "A gap", "slot", "B c 2c02", "B gap", "slot"),
+    *("A c 2822", "A d 1111", "B c 2c02", "B gap", "slot"), "A c 2c02", "A gap", *("A c 2c22", "A gap", "slot", "B c 2c02", "B gap", "slot"),
     *("flag busy 1", "A c 2c22", "A gap", "slot", "flag busy 0"), *("A c 3021", "A d 0001", "A gap", "A c 3000"),
-    *("A c 2c02", "A gap", "A c 2c02", "slot"), *("A c 2c04", "A gap", "slot", "B c 2c02", "B gap", "slot"), *("A c 2822", "A d 0001 0", "A gap"),
+    *("A c 2c02", "A gap", "A c 2c02", "slot"), *("A c 2c04", "A gap", "slot", "B c 2c02", "B gap", "slot"), *("A c 2822", "A d 0001 1", "A gap"),
     "A c 2822"))  # fmt: skip
 ENDS = {("done", ""), ("illegal", ""), ("in error", "wrong word count"), ("in error", "invalid word or noise"), ("superseded", ""),
-        ("done", "reply dropped by a command on the other bus"), ("busy", ""), ("other", ""), ("ignored", "during a reply"),
+        ("done", "reply dropped by a command on the other bus"), ("busy", ""), ("other", ""), ("ignored", "during a reply"), ("ignored", "no gap after a command"),
         ("done", "transmitter shut down"), ("open", "")}  # fmt: skip
 HOSTILE = ['<img src=x onerror="window.hit=1">', '"><script>window.hit=1</script>', "\u202e\0\ufeff", "9" * 5000, "-1", "1e3", "1-", "4-1",
            "1,,2", "ffff " * 80, "{{}}", "';window.hit=1;'", "１２", "A c 2862\u2028slot", "\n\n\n", "٣", "x" * (1 << 20)]  # fmt: skip
@@ -74,11 +74,12 @@ EXPANDED = """(text, messages) => {
     const { expansion, script, result, messageEditor } = rt1553;
     return { faults: expansion.faults, script, transcript: result.transcript, beside: messageEditor.answers };
 }"""
+COLUMNS = "number line bus kind address subaddress code words command transmitter ended why data status bits handed".split()
 # the rows that the page gets, by the names of their fields
 ROWS = """(text, script) => {
     const told = rt1553.engine.messages(text, script).text.split('\\n').slice(0, -1).map((line) => line.split(','));
-    return told.map((it) => Object.fromEntries(%s.map((name, n) => [name, it[n]])));
-}""" % (COLUMNS := "number line bus kind address subaddress code words command transmitter ended why data status bits handed".split())
+    return told.map((it) => Object.fromEntries(COLUMNS.map((name, n) => [name, it[n]])));
+}""".replace("COLUMNS", str(COLUMNS))
 # what the page gives for a canonical text and a script, bytes that are UTF-8
 PLAYED = """(text, script) => {
     const told = rt1553.engine.run(text, script);

@@ -4,7 +4,7 @@ ghost use Rattle.std.specs.Prelude.{◌≡◌, ◌≤◌, ◌<◌, ◌+◌, ◌+
 use byte_streams::{IoFailed, Sink};
 
 /// Puts as many of these bytes as there is room for behind the first ones of a room, and says how many.
-pub fn put(room: &mut [u8], filled: usize, bytes: &[u8]) -> usize
+pub(crate) fn put(room: &mut [u8], filled: usize, bytes: &[u8]) -> usize
     requires { filled ≤ length room.old }
     ensures within { result ≤ length bytes.now }
     ensures fits { filled + result ≤ length room.new }
