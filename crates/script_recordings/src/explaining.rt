@@ -272,7 +272,7 @@ fn judge_others<B: BufRead + Drop>(
 /// Reads a recording, of a terminal from power-up, for the first event which no behaviour of the subsystem explains: what is stated of
 /// it, and a line with which it would be explained. None where the whole recording is explained, with some of the gaps in it that may have
 /// come. Behind a slot in which the unit may have been silent it is judged from the next pause on, as by `watch_since`. A script that states no
-/// recording is refused. What lies between two status words is kept, and no more.
+/// recording is refused. Behind a status word at most 16,383 events are kept.
 pub fn watch_recording<B: BufRead + Drop>(
     alloc: Global,
     normal: &Normal,
@@ -295,7 +295,7 @@ pub fn watch_recording<B: BufRead + Drop>(
 
 /// Reads a recording that began at any time for the first event, in what begins afresh after a pause, which no behaviour of the subsystem
 /// explains, whatever came before. Behind a slot in which the unit may have been silent the same is sought anew. A script that states no
-/// recording is refused. What lies between two status words is kept, and no more.
+/// recording is refused. Behind a status word at most 16,383 events are kept.
 pub fn watch_since<B: BufRead + Drop>(
     alloc: Global,
     normal: &Normal,
