@@ -2,7 +2,7 @@
 
 The model of the rules plays messages that look random, while a subsystem does something now and then. What a monitor on the buses sees of
 each run is a recording, which has to be explained, and `rt1553` plays the script that `--witness` prints to the recorded words. Then each
-is changed in one slot: a bit, the kind, silence or a word. Of some, data words are left open. `decided` tells how many sightings are
+is changed in one slot: a bit, the kind, silence or a word. Of some, data words are left open, and some have many gaps at one place. `decided` tells how many sightings are
 explained then. Other runs are seen from some time on, with a pause in them: `--already-on` judges their first part that begins afresh,
 and `rt1553` plays the scripts that explain some of them. For some runs `infer` has to propose a profile that explains them. Units with
 such a subsystem also answer the acceptance test, right and with a changed reply. A unit that resets or tests itself may be silent then."""
@@ -21,7 +21,7 @@ from programs import Given, run, write_files
 
 pytestmark = pytest.mark.slow
 PROFILES = range(16)
-RUNS, LATER_RUNS, SOME_RUNS, MESSAGES = 20_000, 5_000, 1_600, 8
+RUNS, LATER_RUNS, SOME_RUNS, QUIET_RUNS, MESSAGES = 20_000, 5_000, 1_600, 128, 8
 UNSEEN = ("write", "vector", "bit", "flag")
 PAUSE = (("gap", "A"), ("gap", "A"), ("gap", "B"), ("gap", "B"), ("slot",))
 
@@ -118,6 +118,20 @@ def changed_runs(number):
     """The runs of a profile, each changed in one slot, and some of these with words left open."""
     others = [it for it in map(changed, whole_runs(number), range(number, RUNS, len(PROFILES))) if it]
     return others + opened(others, number)
+
+
+def quiet(recording, seed):
+    """The recording, with more gaps at one place than `verify` keeps behind a status word."""
+    at = random.Random(seed).randrange(len(recording) + 1)
+    return [*recording[:at], *[(("gap", bus), None) for bus in "AB" * 10_000], *recording[at:]]
+
+
+def quiet_runs(number):
+    """A few runs of a profile, as they are and changed, with many gaps at one place."""
+    seeds = range(number, QUIET_RUNS, len(PROFILES))
+    runs = [recorded(setup_of(number), seed) for seed in seeds]
+    runs += [it for it in map(changed, runs, seeds) if it]
+    return [quiet(it, seed) for seed, it in enumerate(runs)]
 
 
 def later_runs(number):
@@ -483,6 +497,7 @@ KINDS = {
     "changed": (changed_runs, check_judged),
     "with open words": (open_runs, check_judged),
     "with open words, played": (open_runs, check_played),
+    "with many gaps": (quiet_runs, check_judged),
     "later": (later_runs, check_judged_later),
     "later, played": (some_later_runs, check_played_later),
 }
