@@ -11,5 +11,6 @@ pub mod TransfersLaw
 pub mod ScheduleLaw
 pub mod Held
 pub mod Status
-pub mod TestLaw
-pub mod ClearLaw
+pub mod OrderLaw
+pub mod LeftLaw
+pub mod BusLaw

@@ -1,4 +1,5 @@
 pub mod Schedule
+pub mod Left
 pub mod Formats
 pub mod Transfers
 pub mod Entries

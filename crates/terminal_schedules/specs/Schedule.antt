@@ -1,7 +1,6 @@
 -- What happens for a message, and what it leaves behind.
-use Rattle.std.specs.Prelude.{◌≡◌, ◌≤◌, ℕ, ◌/◌, Bool, true, false, ◌==◌, Option, Some, None, List, [], ◌∷◌, map, not, ◌&&◌, is_some, ◌↔◌}
+use Rattle.std.specs.Prelude.{◌≡◌, ◌≤◌, ℕ, ◌/◌, Bool, true, false, ◌==◌, Option, Some, None, List, [], ◌∷◌, map}
 use Rattle.bus_word.specs.declared.word.Bus.{Bus}
-use Rattle.bus_word.specs.declared.word.Bus.TheVariants.{A, B}
 use Rattle.bus_word.specs.declared.word.Kind.{Kind}
 use Rattle.bus_word.specs.declared.word.Kind.TheVariants.{Com, Dat}
 use Rattle.bus_word.specs.declared.cell.Cell.{Cell}
@@ -11,7 +10,7 @@ use Rattle.terminal_rules.specs.declared.event.Event.{Event}
 use Rattle.terminal_rules.specs.declared.event.Event.TheVariants.{Word}
 use Rattle.terminal_rules.specs.declared.event.Flag.TheVariants.{Busy}
 use Rattle.terminal_rules.specs.History.{Replying}
-use Rattle.terminal_rules.specs.Open.{Open, Idle}
+use Rattle.terminal_rules.specs.Open.{Idle}
 use Rattle.terminal_rules.specs.Reply.{reply_now}
 use Rattle.terminal_rules.specs.Flags.{flag_now}
 use Rattle.terminal_rules.specs.Starts.{heard_now}
@@ -41,25 +40,6 @@ pub record IsClearIf (asked : Bool) (m : Member) : Type 0 where
 
 abbrev pub IsClear : Member → Type 0
 IsClear m = IsClearIf true m
-
--- the same as a test
-abbrev pub is_idle : Open → Bool
-is_idle Idle = true
-is_idle _ = false
-
-abbrev pub on_both : (Bus → Bool) → Bool
-on_both test = test A && test B
-
-abbrev pub is_clear : Member → Bool
-is_clear m =
-    on_both (λ b. is_idle (open_at m.description m.history b))
-    && (on_both (λ b. not (heard_now m.description (noted_of m) b))
-    && (not (is_some (reply_now (noted_of m)))
-    && (on_both (λ b. not (off_now (noted_of m) b))
-    && (not (flag_now (noted_of m) Busy) && not (kept_now m.description (noted_of m)).error))))
-
-abbrev pub ClearIsTested : Type 0
-ClearIsTested = (m : Member) → (is_clear m ≡ true) ↔ IsClear m
 
 -- what happens on the bus for one message, alone from power-up, leaves each terminal clear
 abbrev pub LeavesClear : Bool → List Description → List BusEvent → Type 0

@@ -1,5 +1,5 @@
 -- Worked examples: two units, a schedule for them, and what is left behind by what can't stand in one.
-use Rattle.std.specs.Prelude.{◌≡◌, ℕ, ◌+◌, ◌*◌, true, false, List, [], ◌∷◌, ◌++◌, map}
+use Rattle.std.specs.Prelude.{◌≡◌, ℕ, ◌+◌, ◌*◌, true, false, Option, Some, None, List, [], ◌∷◌, ◌++◌, map}
 use Rattle.bus_word.specs.declared.word.Bus.TheVariants.{A, B}
 use Rattle.bus_word.specs.declared.word.Kind.TheVariants.{Com, Dat}
 use Rattle.bus_word.specs.declared.cell.Cell.{Cell}
@@ -11,12 +11,15 @@ use Rattle.terminal_rules.specs.Out.{Out, SendsWord, HandsOver, HandsReceived, s
 use Rattle.terminal_rules.specs.WorkedExamples.Words.{five_hearing_all, command, data_word}
 use Rattle.terminal_bus.specs.declared.event.BusEvent.{BusEvent}
 use Rattle.terminal_bus.specs.declared.event.BusEvent.TheVariants.{OnBus, SlotPasses, Subsystem}
-use Rattle.terminal_bus.specs.Members.{play, member_of, powered_up}
+use Rattle.terminal_bus.specs.Members.{member_of, powered_up}
 use Rattle.terminal_bus.specs.Alone.{own_answers}
 use Rattle.terminal_bus.specs.Lists.{Each}
 use Rattle.terminal_bus.specs.OneSpeaker.{AddressesDiffer}
 use Rattle.terminal_bus.specs.Transfer.{actions}
-use Rattle.terminal_schedules.specs.Schedule.{is_clear}
+use Rattle.terminal_schedules.specs.declared.left.LeftAt.{LeftAt}
+use Rattle.terminal_schedules.specs.declared.left.LeftBehind.{LeftBehind}
+use Rattle.terminal_schedules.specs.declared.left.LeftBehind.TheVariants as left
+use Rattle.terminal_schedules.specs.Left.{left_alone}
 use Rattle.terminal_schedules.specs.Entries.{ScheduleEntry, One, Between, Happens, entry_events, CanStand}
 
 -- a unit with this address, the broadcast option, and these cells legal
@@ -102,6 +105,9 @@ illegal = OnBus (command A 0x2822) ∷ OnBus (data_word A 0) ∷ OnBus (data_wor
 abbrev pub status_asked : List BusEvent
 status_asked = OnBus (command A 0x2c02) ∷ OnBus (Gap A) ∷ SlotPasses ∷ []
 
+abbrev pub at_five : LeftBehind → Option LeftAt
+at_five what = Some (record { address = 5; what = what })
+
 pub record ScheduleRows : Type 0 where
   -- the law speaks of this schedule
   pub differ : AddressesDiffer units
@@ -127,6 +133,7 @@ pub record ScheduleRows : Type 0 where
   -- and after a message error is kept
   pub asked_alone : answered 5 status_asked ≡ status 0x2800 ∷ []
   pub error_left : answered 5 (illegal ++ status_asked) ≡ status 0x2c00 ∷ status 0x2c00 ∷ []
-  -- which of the two are clear then
-  pub clear_after : map is_clear (play (powered_up units) (entry_events six_to_five)) ≡ true ∷ true ∷ []
-  pub not_clear_after : map is_clear (play (powered_up units) no_gap) ≡ false ∷ true ∷ []
+  -- what is left behind: by a message nothing; by each of these what is said above
+  pub nothing_left : left_alone units (entry_events six_to_five) ≡ None
+  pub lefts : map (left_alone units) (lone_command ∷ no_gap ∷ no_slots ∷ shut_off ∷ made_busy ∷ illegal ∷ [])
+      ≡ map at_five (left.Message A ∷ left.WordInRun A ∷ left.Reply ∷ left.ShutDown A ∷ left.Busy ∷ left.MessageError ∷ [])

@@ -1,7 +1,7 @@
 //! The messages of a schedule, in any order.
 #![tactic(auto)]
 
-mod clear;
 pub mod laws;
+mod left;
 
-pub use clear::is_clear;
+pub use left::{LeftAt, LeftBehind, left_alone, left_behind};

@@ -1,37 +1,47 @@
-//! Whether a terminal is clear, behind events of each kind.
+//! What is left behind at a terminal, and by messages on a bus.
 use bus_terminal::{Event, Flag, Terminal};
 use bus_word::{Bus, Kind, Raw};
 use rt1553::load;
 use std::test::Fail;
-use terminal_schedules::is_clear;
+use terminal_bus::{BusEvent, TerminalBus};
+use terminal_schedules::{LeftAt, LeftBehind, left_alone, left_behind};
 
 #[test]
 fn terminal_that_is_clear(rt: HostRuntime) -> Result<(), Fail> {
     let normal = load(rt.alloc(), b"address = 5")?;
     let mut terminal = Terminal::power_up(normal.setup(), normal);
-    assert!(rt; is_clear(&terminal));
+    assert!(rt; left_behind(&terminal).is_none());
     terminal.take(Event::Word(Bus::A, Raw::of(Kind::Com, 0x2c02)));
-    assert!(rt; !is_clear(&terminal));
+    assert!(rt; left_behind(&terminal) == Some(LeftBehind::Message(Bus::A)));
     terminal.take(Event::Gap(Bus::A));
-    assert!(rt; !is_clear(&terminal));
+    assert!(rt; left_behind(&terminal) == Some(LeftBehind::Reply));
     terminal.take(Event::Slot);
-    assert!(rt; is_clear(&terminal));
+    assert!(rt; left_behind(&terminal).is_none());
     terminal.take(Event::Flag(Flag::Busy, true));
-    assert!(rt; !is_clear(&terminal));
+    assert!(rt; left_behind(&terminal) == Some(LeftBehind::Busy));
     Ok(())
 }
 
 #[test]
-fn terminal_that_shut_a_transmitter_down(rt: HostRuntime) -> Result<(), Fail> {
-    let normal = load(rt.alloc(), b"address = 5")?;
-    let mut terminal = Terminal::power_up(normal.setup(), normal);
-    for event in [
-        Event::Word(Bus::A, Raw::of(Kind::Com, 0x2c04)),
-        Event::Gap(Bus::A),
-        Event::Slot,
-    ] {
-        terminal.take(event);
+fn message_that_shuts_a_transmitter_down(rt: HostRuntime) -> Result<(), Fail> {
+    let mut bus = TerminalBus::new();
+    for profile in ["address = 5", "address = 6"] {
+        let normal = load(rt.alloc(), profile.as_bytes())?;
+        assert!(rt; bus.add(normal.setup(), normal).is_ok());
     }
-    assert!(rt; !is_clear(&terminal));
+    let message = |command| {
+        [
+            BusEvent::OnBus(Event::Word(Bus::A, Raw::of(Kind::Com, command))),
+            BusEvent::OnBus(Event::Gap(Bus::A)),
+            BusEvent::SlotPasses,
+        ]
+    };
+    assert!(rt; left_alone(&bus, &message(0x3402)).is_none());
+    let left = LeftAt {
+        address: 6,
+        what: LeftBehind::ShutDown(Bus::B),
+    };
+    assert!(rt; left_alone(&bus, &message(0x3404)) == Some(left));
+    assert!(rt; left_alone(&bus, &message(0x3402)).is_none());
     Ok(())
 }

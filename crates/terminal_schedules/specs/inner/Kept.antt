@@ -1,11 +1,19 @@
--- Whether a terminal is clear, by what it keeps.
-use Rattle.std.specs.Prelude.{Bool, not, ◌&&◌, ◌||◌, Option, is_none}
+-- What is left behind at a terminal, by what it keeps.
+use Rattle.std.specs.Prelude.{Option, Some, None, is_some}
+use Rattle.bus_word.specs.declared.word.Bus.{Bus}
 use Rattle.terminal_state.specs.declared.buses.OnBuses.{OnBuses}
 use Rattle.terminal_state.specs.declared.message.InProgress.{InProgress}
+use Rattle.terminal_state.specs.declared.message.Message.{Message}
 use Rattle.terminal_state.specs.declared.registers.Registers.{Registers}
 use Rattle.terminal_state.specs.declared.reply.Reply.{Reply}
+use Rattle.terminal_state.specs.Buses.{on_bus}
+use Rattle.terminal_schedules.specs.declared.left.LeftBehind.{LeftBehind}
+use Rattle.terminal_schedules.specs.Left.{first_bus, left_of}
 
--- there is no message, no word for it, no reply, no transmitter shut down, no busy, no message error
-abbrev pub is_clear_by : InProgress → OnBuses → Option Reply → Registers → Bool
-is_clear_by m heard reply r =
-    is_none m.message && (not (heard.a || heard.b) && (is_none reply && (not (r.off.a || r.off.b) && (not r.flags.busy && not r.kept.error))))
+abbrev pub bus_of_message : Option Message → Option Bus
+bus_of_message None = None
+bus_of_message (Some m) = Some m.bus
+
+abbrev pub left_by : InProgress → OnBuses → Option Reply → Registers → Option LeftBehind
+left_by m heard reply r =
+    left_of (bus_of_message m.message) (first_bus (λ b. on_bus b heard)) (first_bus (λ b. on_bus b r.off)) (is_some reply) r.flags.busy r.kept.error

@@ -45,6 +45,6 @@ returns c = record {
   busy_left = refl;
   asked_alone = refl;
   error_left = refl;
-  clear_after = refl;
-  not_clear_after = refl;
+  nothing_left = refl;
+  lefts = refl;
 }
