@@ -67,6 +67,8 @@ CHECKED = {
     "no profile has address": 40, "no terminal takes the broadcast": 40, "illegal": 150, "busy": 8, "done: transmitter shut down": 3,
     "in error: wrong word count": 20, "in error: no status from the transmitter": 1,
     "takes it for no message": 20, "ignored: during a reply": 1, "commands of two lines in a message": 10,
+    "in every order": 1, "in this order": 1, "leaves: in a message": 20,
+    "leaves: with its transmitter shut down": 10, "leaves: busy": 20, "leaves: with message error in the status that it keeps": 50,
     "loads to 100 %": 10, "loads over 100 %": 20, "rated: data": 40, "rated: data to all": 5, "rated: mode code": 20, "rated: mode code to all": 4,
     "rated: transfer": 20, "rated: transfer to all": 4, "legal for some words": 10, "not legal": 30, "transfers without words": 20,
 }  # fmt: skip
@@ -317,6 +319,29 @@ def kind_of(message):
     return f"rated: {kind}{' to all' if rules.is_broadcast(first) else ''}"
 
 
+def left_at(terminal):
+    """How a terminal is left that is not clear, docs/bus.md."""
+    waiting = [bus for bus, words in sorted(terminal.run.items()) if any(word is not None and terminal.is_for_it(word) for word in words)]
+    if terminal.message:
+        return f"in a message on bus {terminal.message.bus}"
+    if waiting:
+        return f"with a word and no gap behind it on bus {waiting[0]}"
+    if terminal.reply:
+        return "with a reply to send"
+    if terminal.shut_down:
+        return f"with its transmitter shut down on bus {min(terminal.shut_down)}"
+    return "busy" if terminal.flags["busy"] else "with message error in the status that it keeps" if terminal.kept & 0x400 else None
+
+
+def left_by(setups, events):
+    """What is told of what the events of a line leave behind, alone from power-up; None where each terminal is clear then."""
+    bus = buses.Bus(setups, collections.Counter())
+    for event in events:
+        bus.take(event.encode())
+    found = [f"leaves terminal {address:02} {how}" for address, it in bus.terminals.items() if (how := left_at(it))]
+    return found[0] if found else None
+
+
 def judged(schedule, setups, counts, times):
     """What is told of a schedule, with the status and the warnings."""
     present = [it.address for it in setups]
@@ -340,8 +365,12 @@ def judged(schedule, setups, counts, times):
             counts["not legal"] += it.endswith(" is not legal")
             counts[re.sub(r"^terminal \d\d: | \d\d$|[:,] [a-z ]+ \d+ is (not )?legal.*", "", it)] += 1
     counts["all end well"] += not wrong
-    told += load_told(schedule, *times, counts)
-    told.append(counted(messages) + (f", {wrong} of them do{'es' * (wrong == 1)}n't end well" if wrong else ": all end well"))
+    lefts = [f"schedule:{number}: {left}" for number, its in enumerate(events, 1) if (left := left_by(setups, its))]
+    counts.update(re.sub(r"^.*: leaves terminal \d\d (.*?)( on bus [AB])?$", r"leaves: \1", it) for it in lefts)
+    counts["in this order" if lefts else "in every order"] += not wrong
+    told += lefts + load_told(schedule, *times, counts)
+    well = "all end well; in another order some may not" if lefts else "each ends well, in every order"
+    told.append(counted(messages) + (f", {wrong} of them do{'es' * (wrong == 1)}n't end well" if wrong else f": {well}"))
     return Given(int(wrong > 0), "".join(f"{it}\n" for it in told).encode(), "".join(warnings).encode())
 
 
@@ -385,3 +414,39 @@ def test_check(tool, seed, tmp_path, count_runs):
         assert given == wanted or schedule.strange, (number, names, lines)
     assert {name: counts[name] for name, least in CHECKED.items() if counts[name] < least} == {}
     count_runs(SCHEDULES)
+
+
+ORDER_SEEDS = 40
+EVERY_ORDER = ": each ends well, in every order\n"
+# in the schedules of all seeds
+ORDERED = {"in every order": 60, "runs in another order": 200, "shutdowns": 40}
+
+
+def test_every_order(tool, tmp_path, count_runs):
+    """The lines of a schedule that is said to end well in every order do so in random orders, some of them left out and some twice; and
+    none with a shutdown is said to."""
+    draw, counts = random.Random("orders"), collections.Counter()
+    profiles = buses.profiles_of(draw)
+    write_files(tmp_path, {name: text for name, (text, _) in profiles.items()})
+
+    def told(names, lines):
+        counts["runs"] += 1
+        write_files(tmp_path, {"schedule": "".join(f"{it}\n" for it in lines)})
+        return run(tool, "bus", "--check", *names, "schedule", folder=tmp_path)
+
+    for _ in range(ORDER_SEEDS):
+        names = [f"{it:02}.{draw.randrange(buses.VARIANTS)}" for it in draw.sample(range(31), draw.randint(1, 4))]
+        schedule = Schedule(draw, [profiles[it][1].address for it in names])
+        singles = [it.line if isinstance(it, Message) else it for it in schedule.lines]
+        whole = [it for it in singles if told(names, [it]).output.decode().endswith(EVERY_ORDER)]
+        for _ in range(8 if whole else 0):
+            given = told(names, draw.choices(whole, k=draw.randint(1, 12)))
+            assert given.status == 0 and given.output.decode().endswith(EVERY_ORDER), (names, whole)
+            counts["runs in another order"] += 1
+        counts["in every order"] += len(whole)
+        shutdown = f"{draw.choice('AB')} mode {schedule.addresses[0]} 4"
+        lines = draw.sample([*whole, shutdown], len(whole) + 1)
+        assert EVERY_ORDER not in told(names, lines).output.decode(), (names, lines)
+        counts["shutdowns"] += 1
+    assert {name: counts[name] for name, least in ORDERED.items() if counts[name] < least} == {}
+    count_runs(counts["runs"])

@@ -33,9 +33,10 @@ def counted(messages):
     return f"{messages} message" + "s" * (messages != 1)
 
 
-def end_told(messages, wrong):
+def end_told(messages, wrong, every_order=True):
     """The last line of a check."""
-    return counted(messages) + (f", {wrong} of them do{'es' * (wrong == 1)}n't end well" if wrong else ": all end well")
+    well = "each ends well, in every order" if every_order else "all end well; in another order some may not"
+    return counted(messages) + (f", {wrong} of them do{'es' * (wrong == 1)}n't end well" if wrong else f": {well}")
 
 
 HEADER = "number    line bus kind      RT sub words ended\n"
@@ -167,46 +168,53 @@ ROWS = with_files(
         HEADER + "     1       1 B   tx         5   2     1 done; status 2800\n     2       3 B   tx         6   2     1 done; status 3000\n",
         "script:4: warning: a gap while terminal 05 replies: another terminal can begin its reply\n",
         files={"script": "B c 2c41\nB gap\nB c 3441\nB gap\nslot\n"}),
-    checked("all end well", ["3 messages: all end well"], "# to 5", "A rx 5 1 1: 0001", "A rx 6 1 1 from 5 2: 0000", "B tx 6 2 1", status=0),
-    checked("no message", ["0 messages: all end well"], "A c 2c41", "A gap", "slot", "A status 5", "A data 0001", status=0),
+    checked("all end well", ["3 messages: each ends well, in every order"], "# to 5", "A rx 5 1 1: 0001", "A rx 6 1 1 from 5 2: 0000", "B tx 6 2 1", status=0),
+    checked("no message", ["1: leaves terminal 05 in a message on bus A", "4: leaves terminal 05 in a message on bus A",
+                           "0 messages: all end well; in another order some may not"], "A c 2c41", "A gap", "slot", "A status 5", "A data 0001", status=0),
     checked("the name of no profile", ["1: no profile has address 09", "2: no profile has address 13; no profile has address 12",
                                        "2 messages, 2 of them don't end well"], "A rx 9 1 1: 0001", "A rx 12 1 1 from 13 1: 0001"),
     checked("illegal", ["1: terminal 05: illegal: transmit 3 is not legal", "2: terminal 05: illegal: transmit 3 is not legal; terminal 06: in error: wrong word count",
-                        "3: terminal 05: illegal", "4 messages, 3 of them don't end well"], "A tx 5 3 1", "A rx 6 1 1 from 5 3", "B mode 5 19", "B tx 6 2 1"),
+                        "3: terminal 05: illegal", "1: leaves terminal 05 with message error in the status that it keeps",
+                        "2: leaves terminal 05 with message error in the status that it keeps", "3: leaves terminal 05 with message error in the status that it keeps", "4 messages, 3 of them don't end well"], "A tx 5 3 1", "A rx 6 1 1 from 5 3", "B mode 5 19", "B tx 6 2 1"),
     checked("illegal: the transmitter's words come first, and then the receiver's", [
         "1: terminal 05: illegal: transmit 2 is legal for 1 word; terminal 06: in error: wrong word count", "2: terminal 06: illegal: receive 2 is not legal",
         "3: terminal 06: illegal: receive 1 is legal for 1 word", "5: terminal 05: busy; terminal 06: in error: wrong word count # in the run",
-        "4 messages, 4 of them don't end well"], "A rx 6 1 2 from 5 2", "A rx 6 2 1 from 5 2", "A rx 6 1 2: 0001 0002", "05 flag busy 1", "A rx 6 1 1 from 5 2"),
+        "1: leaves terminal 05 with message error in the status that it keeps", "2: leaves terminal 06 with message error in the status that it keeps",
+        "3: leaves terminal 06 with message error in the status that it keeps", "4: leaves terminal 05 busy", "4 messages, 4 of them don't end well"], "A rx 6 1 2 from 5 2", "A rx 6 2 1 from 5 2", "A rx 6 1 2: 0001 0002", "05 flag busy 1", "A rx 6 1 1 from 5 2"),
     Row("check: illegal: several word counts, one of them 32", "bus --check many script", 1,
         "script:1: terminal 08: illegal: transmit 3 is legal for 2-4,32 words\nscript:2: terminal 08: illegal: receive 3 is legal for 32 words\n"
+        "script:1: leaves terminal 08 with message error in the status that it keeps\n"
+        "script:2: leaves terminal 08 with message error in the status that it keeps\n"
         "2 messages, 2 of them don't end well\n",
         files={"many": "address = 8\n" + "".join(f"[[rule]]\ndirection = \"{it}\"\nsubaddresses = 3\ncounts = \"{counts}\"\n"
                                                  for it, counts in (("transmit", "2-4,32"), ("receive", "32"))),
                "script": "A tx 8 3 1\nB rx 8 3 1: 0000\n"}),
-    checked("busy in the run", ["2: terminal 05: busy # in the run", "2 messages, 1 of them doesn't end well"],
+    checked("busy in the run", ["2: terminal 05: busy # in the run", "1: leaves terminal 05 busy", "2 messages, 1 of them doesn't end well"],
             "05 flag busy 1", "A rx 5 1 1: 0001", "05 flag busy 0", "A rx 5 1 1: 0001"),
-    checked("behind a command without its words", ["2: terminal 06: takes it for no message # in the run", "1 message, 1 of them doesn't end well"],
+    checked("behind a command without its words", ["2: terminal 06: takes it for no message # in the run", "1: leaves terminal 06 in a message on bus A", "1 message, 1 of them doesn't end well"],
             "A c 3021", "A rx 6 1 1: 0001"),
     checked("a transmitter that is shut down", ["2: terminal 07: done: transmitter shut down; terminal 06: in error: no status from the transmitter # in the run",
                                                 "3: terminal 07: illegal: transmit 3 is not legal; terminal 06: in error: wrong word count # alone",
                                                 "3: terminal 07: illegal: transmitter shut down, transmit 3 is not legal;"
                                                 " terminal 06: in error: no status from the transmitter # in the run",
-                                                "3 messages, 2 of them don't end well"],
+                                                "1: leaves terminal 07 with its transmitter shut down on bus A",
+                                                "3: leaves terminal 06 with message error in the status that it keeps", "3 messages, 2 of them don't end well"],
             "B mode 7 4", "A rx 6 1 1 from 7 2: 0000", "A rx 6 1 1 from 7 3: 0000"),
-    checked("broadcasts", ["2: no terminal takes the broadcast; terminal 07: illegal: broadcast receive 2 is not legal", "2 messages, 1 of them doesn't end well"],
+    checked("broadcasts", ["2: no terminal takes the broadcast; terminal 07: illegal: broadcast receive 2 is not legal",
+                           "2: leaves terminal 07 with message error in the status that it keeps", "2 messages, 1 of them doesn't end well"],
             "A rx all 1 1: 0001", "A rx all 2 1: 0001"),
     Row("check: a broadcast that one of its terminals takes for a word of another message", "bus --check hearer seven script", 1,
-        "script:2: terminal 06: takes it for no message # in the run\n1 message, 1 of them doesn't end well\n",
+        "script:2: terminal 06: takes it for no message # in the run\nscript:1: leaves terminal 06 in a message on bus A\n1 message, 1 of them doesn't end well\n",
         files={"hearer": HEARER, "seven": SEVEN, "script": "A c 3021\nA rx all 1 1: 0001\n"}),
     Row("check: a transfer to all from a terminal that replies", "bus --check hearer seven script", 1,
-        "script:3: terminal 07: ignored: during a reply # in the run\n1 message, 1 of them doesn't end well\n",
+        "script:3: terminal 07: ignored: during a reply # in the run\nscript:1: leaves terminal 07 in a message on bus A\n1 message, 1 of them doesn't end well\n",
         "script:3: warning: a gap while terminal 07 replies: another terminal can begin its reply\n",
         files={"hearer": HEARER, "seven": SEVEN, "script": "A c 3c41\nA gap\nA rx all 1 1 from 7 2: 0000\n"}),
-    checked("right behind the command of an event", ["1 message: all end well"], "A c 3021", "05 flag busy 0", "A tx 5 2 1", status=0),
+    checked("right behind the command of an event", ["1: leaves terminal 06 in a message on bus A", "1 message: all end well; in another order some may not"], "A c 3021", "05 flag busy 0", "A tx 5 2 1", status=0),
     Row("check: a broadcast without a terminal that has the option", "bus --check five six script", 1,
         "script:1: no terminal takes the broadcast\n1 message, 1 of them doesn't end well\n", files={"script": "A rx all 1 1: 0001\n"}),
-    checked("stated answers", ["2 messages: all end well"], "A tx 5 2 1", "#> A s 2800", "#> A d 0000", "A rx 5 1 1: 0001", "#> hand receive own 01 0001", status=0),
-    checked("a warning", ["3: terminal 05: ignored: during a reply # in the run", "1 message, 1 of them doesn't end well"], "A c 2c41\nA gap", "A tx 5 2 1",
+    checked("stated answers", ["2 messages: each ends well, in every order"], "A tx 5 2 1", "#> A s 2800", "#> A d 0000", "A rx 5 1 1: 0001", "#> hand receive own 01 0001", status=0),
+    checked("a warning", ["3: terminal 05: ignored: during a reply # in the run", "1: leaves terminal 05 in a message on bus A", "1 message, 1 of them doesn't end well"], "A c 2c41\nA gap", "A tx 5 2 1",
             errors="script:3: warning: a gap while terminal 05 replies: another terminal can begin its reply\n"),
     checked("a line that is refused", [], "A tx 5 2 1", "08 flag busy 1", status=2, errors="script:2:1: error: no profile has address 08\n"),
     checked("all lines that are refused", [], "08 flag busy 1", "A tx 5 2 1", "A tx 9 2 1", "A gup", "A rx 6 1 1", "# so", "flag busy 1", "05 bit 001", "05 A gap",
@@ -226,16 +234,17 @@ ROWS = with_files(
     Row("check: no file", "bus --check five nothing", 4, "", "file: cannot read nothing: no such file\n"),
     named("each of its terminal", "5.csv 6.csv",
           ['2: "speed": terminal 05: busy # in the run', "3: terminal 05: illegal: transmit 3 is not legal", "4: no profile has address 09",
-           "4 messages, 3 of them don't end well"],
+           "1: leaves terminal 05 busy", "3: leaves terminal 05 with message error in the status that it keeps", "4 messages, 3 of them don't end well"],
           "05 flag busy 1", "A rx 5 1 1: 0001", "A tx 5 3 1", "A rx 9 1 1: 0001", "B rx 6 1 1: 0002"),
     named("of the receiver, and else of the transmitter", "6.csv 5.csv",
           ['1: "level": terminal 05: illegal: transmit 3 is not legal; terminal 06: in error: wrong word count',
            "2: terminal 05: illegal: transmit 3 is not legal; no profile has address 09",
-           '3: "the \\"pressure\\"": no profile has address 09', "3 messages, 3 of them don't end well"],
+           '3: "the \\"pressure\\"": no profile has address 09', "1: leaves terminal 05 with message error in the status that it keeps",
+           "2: leaves terminal 05 with message error in the status that it keeps", "3 messages, 3 of them don't end well"],
           "A rx 6 1 1 from 5 3: 0000", "A rx 9 1 1 from 5 3: 0000", "A rx 9 1 1 from 5 2: 0000"),
     named("of a broadcast, and of a mode code", "6.csv 7.csv",
           ["2: no terminal takes the broadcast; terminal 07: illegal: broadcast receive 2 is not legal", '3: "off": terminal 07: illegal',
-           "3 messages, 2 of them don't end well"],
+           "2: leaves terminal 07 with message error in the status that it keeps", "3: leaves terminal 07 with message error in the status that it keeps", "3 messages, 2 of them don't end well"],
           "A rx all 1 1: 0001", "A rx all 2 1: 0001", "A mode 7 4 rx"),
     named("of a broadcast that none takes", "7.csv", ['1: "all of them": no terminal takes the broadcast', "1 message, 1 of them doesn't end well"],
           "A rx all 1 1: 0001")._replace(files={**FILES, **TABLES, "seven": "address = 7\n", "script": "A rx all 1 1: 0001\n"}),
@@ -249,27 +258,28 @@ ROWS = with_files(
       ]),
     timed("on both buses", "", [
         "rate 50: 1 message, 76 us of each 20000 us on bus A", "rate 50: 1 message, 76 us of each 20000 us on bus B",
-        "rate 3: 1 message, 128 us of each 333333 us on bus A", "load: 0.5 % of bus A", "load: 0.4 % of bus B", "5 messages: all end well"],
+        "rate 3: 1 message, 128 us of each 333333 us on bus A", "load: 0.5 % of bus A", "load: 0.4 % of bus B", "5 messages: each ends well, in every order"],
         "A tx 5 2 1", *GROUP, "# rate 3", "A rx 6 1 1 from 5 2: 0000", "# rate 0", "A tx 5 2 1"),
     timed("other times", "--response 0 --gap 1000", [
         "rate 50: 1 message, 1060 us of each 20000 us on bus A", "rate 50: 1 message, 1060 us of each 20000 us on bus B",
-        "load: 5.3 % of bus A", "load: 5.3 % of bus B", "2 messages: all end well"], *GROUP),
+        "load: 5.3 % of bus A", "load: 5.3 % of bus B", "2 messages: each ends well, in every order"], *GROUP),
     timed("exactly all of the bus", "--response 12 --gap 28", [
-        "rate 10000: 1 message, 100 us of each 100 us on bus A", "load: 100.0 % of bus A", "1 message: all end well"], "# rate 10000", "A rx 5 1 1: 0001"),
+        "rate 10000: 1 message, 100 us of each 100 us on bus A", "load: 100.0 % of bus A", "1 message: each ends well, in every order"], "# rate 10000", "A rx 5 1 1: 0001"),
     timed("more than the bus has", "--response 12 --gap 29", [
-        "rate 10000: 1 message, 101 us of each 100 us on bus A", "load: 101.0 % of bus A: more than the bus has", "1 message: all end well"],
+        "rate 10000: 1 message, 101 us of each 100 us on bus A", "load: 101.0 % of bus A: more than the bus has", "1 message: each ends well, in every order"],
         "# rate 10000", "A rx 5 1 1: 0001"),
-    timed("the highest rate, without a message", "", ["1 message: all end well"], "# rate 1000000", "# rate 0", "A tx 5 2 1", "# rate 5"),
-    timed("comments and no rates", "", ["1 message: all end well"], "# rate", "# rates 5", "#  rate 5", "# rate of speed", "#rate 5", "# rate -1", "# rate +1", "A tx 5 2 1"),
-    *(timed(f"{it!r}", "", ["1 message: all end well"], f"# rate {it}", "A tx 5 2 1",
+    timed("the highest rate, without a message", "", ["1 message: each ends well, in every order"], "# rate 1000000", "# rate 0", "A tx 5 2 1", "# rate 5"),
+    timed("comments and no rates", "", ["1 message: each ends well, in every order"], "# rate", "# rates 5", "#  rate 5", "# rate of speed", "#rate 5", "# rate -1", "# rate +1", "A tx 5 2 1"),
+    *(timed(f"{it!r}", "", ["1 message: each ends well, in every order"], f"# rate {it}", "A tx 5 2 1",
             errors='script:1: warning: no rate: behind "# rate " stands a number from 0 to 1000000 alone\n') for it in ("5 Hz", "1000001", "5 ", "0x5", "1.5", "9" * 30)),
-    timed("events alone", "", ["0 messages: all end well"], "# rate 50", "A c 2c41", "A gap", "slot", "A status 5", "A data 0001"),
+    timed("events alone", "", ["2: leaves terminal 05 in a message on bus A", "5: leaves terminal 05 in a message on bus A",
+                              "0 messages: all end well; in another order some may not"], "# rate 50", "A c 2c41", "A gap", "slot", "A status 5", "A data 0001"),
     *(Row(f"for --check alone: {words}", f"bus {it} {words} five six script", 3, "", CHECK_ALONE, files={**TABLES, "script": ""})
       for it in ("", "--messages", "--alone 5", "--expand")
       for words in ("--format json", "--format junit", "--names 5.csv", "--date 2026-01-31T12:00:00", "--response 12", "--gap 4")),
     *(Row(f"{option} {it}", f"bus --check {option} {it} five script", 3, "", f"arguments: {option} is 0 to 1000, in whole microseconds\n", files={"script": ""})
       for option in ("--response", "--gap") for it in ("1001", "4.5", "+4", "x", "12us", "65536")),
-    *(Row(f"{option} {it}", f"bus --check {option} {it} five script", 0, "0 messages: all end well\n", files={"script": ""})
+    *(Row(f"{option} {it}", f"bus --check {option} {it} five script", 0, "0 messages: each ends well, in every order\n", files={"script": ""})
       for option in ("--response", "--gap") for it in ("0", "1000")),
     *(Row(f"exclusive: {words}", f"bus five script {words}", 3, "", f"arguments: {told} exclude each other\n", files={"script": ""})
       for words, told in (("--check --messages", "--messages and --check"), ("--alone 5 --check", "--alone and --check"),
@@ -379,6 +389,7 @@ REPORTS = [
     report_of("names and a date", "--names 6.csv --names 5.csv --names 7.csv --date 2026-01-31T12:00:00Z", "seven five six", *MIXED),
     report_of("other times", "--names 5.csv --response 4 --gap 100", "five six", *MIXED),
     report_of("all end well", "--names 5.csv", "five six", "A rx 5 1 1: 0001", "B tx 6 2 1"),
+    report_of("what is left behind", "", "five six seven", "B mode 7 4", "05 flag busy 1", "A c 3021", "A c 2c41\nA gap", "A tx 5 3 1", "A rx 6 1 1 from 5 2"),
     report_of("no message", "", "five", "# nothing"),
     report_of("a message that is refused", "--names 5.csv", "five six", "A tx 5 2 1", "A txx 5 2 1"),
     report_of("several lines that are refused", "", "five six", "A txx 5 2 1", "A tx 5 2 1", "07 flag busy 1", "A <&\"gt", "flag busy 1"),
@@ -401,6 +412,15 @@ def lines_told(one, it, shown):
     return [f"{front}{reasons} # {playing}" for reasons, playing in ((alone, "alone"), (in_run, "in the run")) if reasons]
 
 
+LEFT = {"message": "in a message", "word": "with a word and no gap behind it", "reply": "with a reply to send",
+        "shutdown": "with its transmitter shut down", "busy": "busy", "error": "with message error in the status that it keeps"}  # fmt: skip
+
+
+def lefts_told(one):
+    """What lines leave behind, behind their numbers."""
+    return [(it["line"], f"leaves terminal {it['terminal']:02} {LEFT[it['left']]}" + (f" on bus {it['bus']}" if it["bus"] else "")) for it in one["leaves"]]
+
+
 def loads_told(one):
     """The load of each bus."""
     return [f"{it['tenths'] // 10}.{it['tenths'] % 10} % of bus {it['bus']}" + ("" if it["fits"] else ": more than the bus has")
@@ -410,16 +430,17 @@ def loads_told(one):
 def text_told(one, shown):
     """The lines of text that a whole object of JSON tells."""
     lines = [line for it in one["troubles"] for line in lines_told(one, it, shown)]
+    lines += [f"{shown[one['file']]}:{line}: {told}" for line, told in lefts_told(one)]
     if one["load"]:
         lines += [f"rate {it['rate']}: {counted(it['messages'])}, {it['time']} us of each {it['period']} us on bus {it['bus']}" for it in one["load"]["rates"]]
     lines += [f"load: {it}" for it in loads_told(one)]
-    return "".join(f"{line}\n" for line in [*lines, end_told(one["messages"], len(one["troubles"]))])
+    return "".join(f"{line}\n" for line in [*lines, end_told(one["messages"], len(one["troubles"]), one["every_order"])])
 
 
 def look_at_object(one, report, given, digests, shown):
     """The object of JSON beside what the text format gave."""
     assert misfits(one, "docs/bus.schema.json") == []
-    assert list(one) == ["file", "profiles", "passes", "messages", "troubles", "load", "names", "fault", "sha256", *reports.VERSIONS, "date"]
+    assert list(one) == ["file", "profiles", "passes", "every_order", "messages", "troubles", "leaves", "load", "names", "fault", "sha256", *reports.VERSIONS, "date"]
     assert {it: one[it] for it in reports.VERSIONS} == reports.VERSIONS
     assert one["profiles"] == [{"file": it, "address": {"five": 5, "six": 6, "seven": 7}.get(it, 5), "sha256": digests.of(it),
                                 "canonical_sha256": digests.canonical(it)} for it in report.profiles]  # fmt: skip
@@ -427,10 +448,11 @@ def look_at_object(one, report, given, digests, shown):
     assert [one["date"]] == (option_in(report.words, "--date") or [None])
     assert (one["file"], one["passes"], one["sha256"]) == ("script", given.status == 0, digests.of("script"))
     if given.status == 2:
-        assert (one["messages"], one["troubles"], one["load"]) == (None, [], None)
+        assert (one["every_order"], one["messages"], one["troubles"], one["leaves"], one["load"]) == (False, None, [], [], None)
         assert f"{one['fault']}\n".encode() == given.errors
     else:
         assert one["fault"] is None
+        assert one["every_order"] == (one["passes"] and not one["leaves"])
         assert text_told(one, shown).encode() == given.output
 
 
@@ -473,7 +495,9 @@ def look_at_suite(text, one, shown):
         ("profile", shown[it["file"]]), ("profile_sha256", it["sha256"]), ("canonical_sha256", it["canonical_sha256"]))]  # fmt: skip
     names = [(key, value) for it in one["names"] for key, value in (("names", shown[it["file"]]), ("names_sha256", it["sha256"]))]
     own = [("sha256", one["sha256"])] if one["sha256"] else []
-    assert reports.properties_of(suite) == [*reports.VERSIONS.items(), *own, *profiles, *names, *(("load", it) for it in loads_told(one))]
+    every = [] if one["fault"] else [("every_order", str(one["every_order"]).lower())]
+    leaves = [("leaves", f"line {line}: {told}") for line, told in lefts_told(one)]
+    assert reports.properties_of(suite) == [*reports.VERSIONS.items(), *own, *profiles, *names, *every, *leaves, *(("load", it) for it in loads_told(one))]
     look_at_cases(suite, one, shown)
 
 

@@ -4,7 +4,8 @@ ghost use Rattle.std.specs.String.{string_bytes};
 ghost use Rattle.ascii_json.specs.Ascii.{IsPlainText};
 ghost use Rattle.bus_reports.specs.inner.Objects.{IsObjectOf};
 
-use crate::judged::JudgedMessage;
+use crate::judged::{JudgedMessage, PartLeft};
+use crate::left::{left_bus, left_name};
 use crate::load::{BusLoad, LoadTimes};
 use crate::report::{CheckOutcome, CheckReport, CheckedProfile};
 use crate::told::letter_of;
@@ -33,6 +34,16 @@ struct TroubleEntry {
     name: Option<String>,
     alone: Vec<String>,
     in_run: Vec<String>,
+}
+
+/// What a line of the file leaves behind.
+#[derive(Drop, Serialize)]
+struct LeftEntry {
+    line: u64,
+    terminal: u8,
+    left: &'static str,
+    /// Null where it is on no bus.
+    bus: Option<&'static str>,
 }
 
 /// What the messages of a rate take of a bus.
@@ -77,9 +88,11 @@ struct CheckObject<'a> {
     file: &'a str,
     profiles: Vec<ProfileEntry<'a>>,
     passes: bool,
+    every_order: bool,
     /// Null where the file was not played.
     messages: Option<usize>,
     troubles: Vec<TroubleEntry>,
+    leaves: Vec<LeftEntry>,
     /// Null where no message has a rate.
     load: Option<LoadEntry>,
     names: Vec<TableEntry<'a>>,
@@ -155,6 +168,22 @@ fn trouble_entries(
     Ok(entries)
 }
 
+/// What lines leave behind.
+fn left_entries(alloc: Global, lefts: &[PartLeft]) -> Result<Vec<LeftEntry>, AllocError> {
+    let mut entries = Vec::new(alloc);
+    for part in lefts {
+        if let Some(left) = part.left {
+            entries.push(LeftEntry {
+                line: part.line,
+                terminal: left.address,
+                left: left_name(left.what),
+                bus: left_bus(left.what),
+            })?;
+        }
+    }
+    Ok(entries)
+}
+
 /// What the messages of each rate take.
 fn rate_entries(alloc: Global, load: &BusLoad) -> Result<Vec<RateEntry>, AllocError> {
     let mut entries = Vec::new(alloc);
@@ -202,18 +231,31 @@ fn load_entry(
     }
 }
 
-/// What is told of a file that was played: the messages, and the load.
+/// What is told of a file that was played.
+#[derive(Drop)]
+struct JudgedEntries {
+    troubles: Vec<TroubleEntry>,
+    leaves: Vec<LeftEntry>,
+    load: Option<LoadEntry>,
+}
+
+/// What is told of a file that was played: the messages, what lines leave behind, and the load.
 fn judged_entries(
     alloc: Global,
     outcome: &CheckOutcome,
     times: LoadTimes,
-) -> Result<(Vec<TroubleEntry>, Option<LoadEntry>), AllocError> {
+) -> Result<JudgedEntries, AllocError> {
     match outcome {
-        CheckOutcome::Judged(judged) => Ok((
-            trouble_entries(alloc, judged.messages.as_slice())?,
-            load_entry(alloc, &judged.load, times)?,
-        )),
-        CheckOutcome::Refused(_) => Ok((Vec::new(alloc), None)),
+        CheckOutcome::Judged(judged) => Ok(JudgedEntries {
+            troubles: trouble_entries(alloc, judged.messages.as_slice())?,
+            leaves: left_entries(alloc, judged.lefts.as_slice())?,
+            load: load_entry(alloc, &judged.load, times)?,
+        }),
+        CheckOutcome::Refused(_) => Ok(JudgedEntries {
+            troubles: Vec::new(alloc),
+            leaves: Vec::new(alloc),
+            load: None,
+        }),
     }
 }
 
@@ -221,14 +263,20 @@ fn judged_entries(
 fn object_of<'a>(alloc: Global, report: &'a CheckReport<'_>) -> Result<CheckObject<'a>, AllocError>
     ensures { IfOk result (IsObjectOf report.entry.now) }
 {
-    let (troubles, load) = judged_entries(alloc, &report.outcome, report.times)?;
+    let JudgedEntries {
+        troubles,
+        leaves,
+        load,
+    } = judged_entries(alloc, &report.outcome, report.times)?;
     let head = report.head;
     Ok(CheckObject {
         file: report.file,
         profiles: profile_entries(alloc, report.profiles.as_slice())?,
         passes: report.outcome.passes(),
+        every_order: report.outcome.in_every_order(),
         messages: report.outcome.messages(),
         troubles,
+        leaves,
         load,
         names: table_entries(alloc, report.tables.as_slice())?,
         fault: report.outcome.fault(),

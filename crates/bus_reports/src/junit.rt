@@ -3,6 +3,7 @@ ghost use Rattle.std.specs.Prelude.{IfOk, List, string_bytes, ℕ};
 ghost use Rattle.rt1553_report.specs.Junit.{IsJunitSuite};
 
 use crate::judged::{JudgedMessage, Judgement, told_in};
+use crate::left::left_text;
 use crate::load::BusLoad;
 use crate::report::{CheckOutcome, CheckReport, CheckedProfile};
 use crate::told::reasons_text;
@@ -47,7 +48,28 @@ fn push_load(alloc: Global, text: &mut String, load: &BusLoad) -> Result<(), All
     Ok(())
 }
 
-/// The properties of the suite: the digest of the file, the profiles, the tables of names, and the load.
+/// Writes whether each message ends well in every order, what lines leave behind, and the load.
+fn push_judged(alloc: Global, text: &mut String, judged: &Judgement) -> Result<(), AllocError> {
+    let every: &[u8] = if judged.in_every_order() {
+        b"true"
+    } else {
+        b"false"
+    };
+    push_property(alloc, text, "every_order", every)?;
+    for part in judged.lefts.as_slice() {
+        if let Some(left) = part.left {
+            let told = left_text(alloc, left)?;
+            let told = format!(in alloc; "line {}: {}", part.line, told.as_str())?;
+            push_property(alloc, text, "leaves", told.as_str().as_bytes())?;
+        }
+    }
+    match &judged.load {
+        Some(load) => push_load(alloc, text, load),
+        None => Ok(()),
+    }
+}
+
+/// The properties of the suite: the digest of the file, the profiles, the tables of names, and what comes of the file.
 fn suite_properties(alloc: Global, report: &CheckReport<'_>) -> Result<String, AllocError> {
     let mut text = String::new(alloc);
     if let Some(digest) = report.digest {
@@ -55,14 +77,8 @@ fn suite_properties(alloc: Global, report: &CheckReport<'_>) -> Result<String, A
     }
     push_profiles(alloc, &mut text, report.profiles.as_slice())?;
     push_tables(alloc, &mut text, report.tables.as_slice())?;
-    if let CheckOutcome::Judged(
-        Judgement {
-            load: Some(load),
-            ..
-        },
-    ) = &report.outcome
-    {
-        push_load(alloc, &mut text, load)?;
+    if let CheckOutcome::Judged(judged) = &report.outcome {
+        push_judged(alloc, &mut text, judged)?;
     }
     Ok(text)
 }

@@ -4,13 +4,14 @@
 mod json;
 mod judged;
 mod junit;
+mod left;
 mod load;
 mod rates;
 mod report;
 mod told;
 
 pub use json::check_json;
-pub use judged::{JudgedMessage, Judgement, told_in};
+pub use judged::{JudgedMessage, Judgement, PartLeft, told_in};
 pub use junit::check_junit;
 pub use load::{BusLoad, LoadRow, LoadTimes, PutMessage, RateGroup, RateRow, load_of};
 pub use rates::{RateLine, rate_line};

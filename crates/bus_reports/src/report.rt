@@ -1,6 +1,6 @@
 //! What is reported of a file of messages.
 ghost use Rattle.std.specs.Prelude.{◌≡◌, option_map};
-ghost use Rattle.bus_reports.specs.Outcomes.{file_fault, file_messages, file_passes};
+ghost use Rattle.bus_reports.specs.Outcomes.{file_fault, file_in_every_order, file_messages, file_passes};
 
 use crate::judged::{Judgement, told_in};
 use crate::load::LoadTimes;
@@ -51,6 +51,16 @@ impl CheckOutcome {
     {
         match self {
             CheckOutcome::Judged(judged) => told_in(judged.messages.as_slice()) == 0,
+            CheckOutcome::Refused(_) => false,
+        }
+    }
+
+    /// Whether the file was played, and each of its messages ends well, in every order.
+    pub fn in_every_order(&self) -> bool
+        ensures { result ≡ file_in_every_order self.now }
+    {
+        match self {
+            CheckOutcome::Judged(judged) => judged.in_every_order(),
             CheckOutcome::Refused(_) => false,
         }
     }

@@ -1,9 +1,10 @@
 //! What is told of the messages of a file, as text.
 ghost use Rattle.std.specs.Prelude.{IfOk, OnOk};
 ghost use Rattle.std.specs.String.{string_bytes};
-ghost use Rattle.bus_reports.specs.Outcomes.{EndsWith, last_words, told_among};
+ghost use Rattle.bus_reports.specs.Outcomes.{EndsWith, in_every_order, last_words, told_among, well_words};
 
 use crate::judged::{JudgedMessage, Judgement, told_in};
+use crate::left::push_lefts;
 use crate::load::{BusLoad, LoadRow, RateRow};
 use bus_word::Bus;
 use message_names::quoted;
@@ -114,31 +115,53 @@ fn push_load(alloc: Global, text: &mut String, load: &BusLoad) -> Result<(), All
     Ok(())
 }
 
-/// Adds the last line, of how many messages there are and are told.
-fn push_end(text: &mut String, messages: usize, told: usize) -> Result<(), AllocError>
-    ensures { OnOk result (EndsWith (last_words told) (string_bytes text.new)) }
+/// Adds the last line: how many messages there are, how many are told, and whether the others end well in every order.
+fn push_end(
+    text: &mut String,
+    messages: usize,
+    told: usize,
+    in_every_order: bool,
+) -> Result<(), AllocError>
+    ensures { OnOk result (EndsWith (last_words told in_every_order) (string_bytes text.new)) }
 {
     write!(text, "{messages} {}", messages_word(messages))?;
     if told == 0 {
-        return text.push_str(": all end well\n");
+        return push_well(text, in_every_order);
     }
     let do_not = if told == 1 { "does" } else { "do" };
     write!(text, ", {told} of them {do_not}")?;
     text.push_str("n't end well\n")
 }
 
+/// Adds that each message ends well.
+fn push_well(text: &mut String, in_every_order: bool) -> Result<(), AllocError>
+    ensures { OnOk result (EndsWith (well_words in_every_order) (string_bytes text.new)) }
+{
+    if in_every_order {
+        text.push_str(": each ends well, in every order\n")
+    } else {
+        text.push_str(": all end well; in another order some may not\n")
+    }
+}
+
 /// What is told of the messages of the file of this name, as it is printed.
 pub fn judged_text(alloc: Global, file: &str, judged: &Judgement) -> Result<String, AllocError>
-    ensures { IfOk result (λ text. EndsWith (last_words (told_among judged.now)) (string_bytes text)) }
+    ensures { IfOk result (λ text. EndsWith (last_words (told_among judged.now) (in_every_order judged.now)) (string_bytes text)) }
 {
     let mut text = String::new(alloc);
     let messages = judged.messages.as_slice();
     for message in messages {
         text.push_str(message.lines(alloc, file)?.as_str())?;
     }
+    push_lefts(alloc, &mut text, file, judged.lefts.as_slice())?;
     if let Some(load) = &judged.load {
         push_load(alloc, &mut text, load)?;
     }
-    push_end(&mut text, messages.len(), told_in(messages))?;
+    push_end(
+        &mut text,
+        messages.len(),
+        told_in(messages),
+        judged.in_every_order(),
+    )?;
     Ok(text)
 }

@@ -1,7 +1,6 @@
 -- What is left behind on a bus of terminals, place by place.
 use Rattle.std.proofs.Common.{◌≡◌, ◌<◌, ◌≤◌, ◌+◌, ℕ, zero, suc, Bool, Option, Some, None, List, [], ◌∷◌, ◌++◌, length, drop, take, slice_get, get_or, unwrap_or, is_some, true, false, arith, refl, ap, sym, subst, ◌∙◌}
 use Rattle.std.specs.Option.{option_map}
-use Rattle.std.proofs.lemmas.Option.{none-some}
 use Rattle.std.proofs.lemmas.List.{drop_all, take_more}
 use Rattle.bus_word.specs.declared.cell.Cell.{Cell}
 use Rattle.bus_terminal.specs.declared.terminal.Terminal.{Terminal}
@@ -11,7 +10,7 @@ use Rattle.terminal_bus.specs.declared.seat.Seat.{Seat}
 use Rattle.terminal_bus.specs.Members.{Member, bus_after, play}
 use Rattle.terminal_bus.specs.AtMembers.{AtBoth, SeatStands, IsTerminalAt, member_address}
 use Rattle.terminal_schedules.specs.declared.left.LeftAt.{LeftAt}
-use Rattle.terminal_schedules.specs.Left.{first_of, left_at, first_left}
+use Rattle.terminal_schedules.specs.Left.{first_there, left_at, first_left}
 
 -- the terminal of a place stands at the member there
 module _ {L : Type 0} (is_legal : L → Cell → Bool) (m : Member) where
@@ -22,18 +21,8 @@ module _ {L : Type 0} (is_legal : L → Cell → Bool) (m : Member) where
       stands None both there = absurd both
       stands (Some seat) both there = there.stands m.description m.history both.terminal
 
-  pub terminal_missing : (o : Option (Seat L)) (at : Option Member) → at ≡ Some m → AtBoth (SeatStands is_legal) o at → IsTerminalAt is_legal o None → ⊥
-  terminal_missing o at is both there = missing o (subst (λ n. AtBoth (SeatStands is_legal) o n) is both) there
-    where
-      missing : (o : Option (Seat L)) → AtBoth (SeatStands is_legal) o (Some m) → IsTerminalAt is_legal o None → ⊥
-      missing None both there = both
-      missing (Some seat) both there = there
-
 pub address_there : (members : List Member) (k a : ℕ) (m : Member) → slice_get members k ≡ Some m → Some a ≡ member_address members k → a ≡ m.description.address
 address_there members k a m at is = ap (λ o. unwrap_or o 0) (is ∙ ap (option_map (λ (n : Member). n.description.address)) at)
-
-pub address_missing : (members : List Member) (k : ℕ) (m : Member) → slice_get members k ≡ Some m → None ≡ member_address members k → ⊥
-address_missing members k m at is = none-some m.description.address (is ∙ ap (option_map (λ (n : Member). n.description.address)) at)
 
 -- an element at its place
 pub record MemberAt (members : List Member) (k : ℕ) : Type 0 where
@@ -49,11 +38,11 @@ member_there (m ∷ members) (suc k) within =
     let next : suc (k + 1) ≡ suc k + 1 = omega arith in
     record { it = there.it; at = there.at; rest = there.rest ∙ ap (λ i. there.it ∷ drop i (m ∷ members)) next }
 
-some_first : {X : Type 0} (x y : Option X) → is_some x ≡ true → first_of x y ≡ x
+some_first : {X : Type 0} (x y : Option X) → is_some x ≡ true → first_there x y ≡ x
 some_first None y e = cc
 some_first (Some x) y e = refl
 
-none_first : {X : Type 0} (x y : Option X) → is_some x ≡ false → first_of x y ≡ y
+none_first : {X : Type 0} (x y : Option X) → is_some x ≡ false → first_there x y ≡ y
 none_first None y e = refl
 none_first (Some x) y e = cc
 

@@ -20,7 +20,7 @@ use Rattle.terminal_state.specs.Standing.{standing_of}
 use Rattle.bus_terminal.specs.declared.terminal.Terminal.{Terminal}
 use Rattle.bus_terminal.specs.Stands.{StandsAt}
 use Rattle.terminal_bus.specs.Members.{member_at}
-use Rattle.terminal_schedules.specs.Left.{is_idle, first_bus, left_of, left_behind}
+use Rattle.terminal_schedules.specs.Left.{is_idle, first_bus, left_among, what_is_left}
 use Rattle.terminal_schedules.specs.inner.Kept.{bus_of_message, left_by}
 
 abbrev idle : {F : Type 0} → MessageState F → Bool
@@ -52,9 +52,9 @@ has_reply None = refl
 has_reply (Some r) = refl
 
 pub left_law : {L : Type 0} (is_legal : L → Cell → Bool) (P : Description) (h : List Event) (t : Terminal L) → StandsAt is_legal P h t →
-    left_by t.in_progress t.heard t.reply t.registers ≡ left_behind (member_at P h)
+    left_by t.in_progress t.heard t.reply t.registers ≡ what_is_left (member_at P h)
 left_law is_legal P h t s =
-    λ j. left_of (message j) (first_bus (λ b. on_bus b (s.heard j))) (first_bus (λ b. on_bus b (s.registers j).off)) (reply j) (s.registers j).flags.busy (s.registers j).kept.error
+    λ j. left_among (message j) (first_bus (λ b. on_bus b (s.heard j))) (first_bus (λ b. on_bus b (s.registers j).off)) (reply j) (s.registers j).flags.busy (s.registers j).kept.error
   where
     message : bus_of_message t.in_progress.message ≡ first_bus (λ b. not (is_idle (open_now P (past P h) b)))
     message = message_bus t.in_progress.message t.in_progress.words.items ∙ ap first_bus (λ j b. not ((ap idle (s.standing b) ∙ idle_standing P (open_now P (past P h) b)) j))

@@ -20,20 +20,20 @@ use Rattle.terminal_bus.specs.Transfer.{noted_of}
 use Rattle.terminal_schedules.specs.declared.left.LeftBehind.{LeftBehind}
 use Rattle.terminal_schedules.specs.declared.left.LeftBehind.TheVariants.{Message, WordInRun, Reply, ShutDown, Busy, MessageError}
 use Rattle.terminal_schedules.specs.Schedule.{IsClear, CanFollow}
-use Rattle.terminal_schedules.specs.Left.{is_idle, first_bus, if_so, first_of, left_of, left_behind, left_at, first_left, left_alone, LeftTells, EveryOrderLaw}
+use Rattle.terminal_schedules.specs.Left.{is_idle, first_bus, if_so, first_there, left_among, what_is_left, left_at, first_left, left_alone, LeftTells, EveryOrderLaw}
 use Rattle.terminal_schedules.proofs.Law.{alone_decides}
 
 -- nothing is the first of two just if both are nothing
-left_none : {X : Type 0} (x y : Option X) → first_of x y ≡ None → x ≡ None
+left_none : {X : Type 0} (x y : Option X) → first_there x y ≡ None → x ≡ None
 left_none None y e = refl
 left_none (Some x) y e = e
 
-right_none : {X : Type 0} (x y : Option X) → first_of x y ≡ None → y ≡ None
+right_none : {X : Type 0} (x y : Option X) → first_there x y ≡ None → y ≡ None
 right_none None y e = e
 right_none (Some x) y e = cc
 
-both_none : {X : Type 0} (x y : Option X) → x ≡ None → y ≡ None → first_of x y ≡ None
-both_none x y p q = λ j. first_of (p j) (q j)
+both_none : {X : Type 0} (x y : Option X) → x ≡ None → y ≡ None → first_there x y ≡ None
+both_none x y p q = λ j. first_there (p j) (q j)
 
 map_none : {X Y : Type 0} (f : X → Y) (o : Option X) → option_map f o ≡ None → o ≡ None
 map_none f None e = refl
@@ -71,12 +71,12 @@ record AreNone (message run off : Option Bus) (replies busy error : Bool) : Type
   pub not_busy : busy ≡ false
   pub no_error : error ≡ false
 
-are_none : (message run off : Option Bus) (replies busy error : Bool) → left_of message run off replies busy error ≡ None → AreNone message run off replies busy error
+are_none : (message run off : Option Bus) (replies busy error : Bool) → left_among message run off replies busy error ≡ None → AreNone message run off replies busy error
 are_none message run off replies busy error e =
-    let five : Option LeftBehind = first_of (if_so busy Busy) (if_so error MessageError) in
-    let four : Option LeftBehind = first_of (option_map ShutDown off) five in
-    let three : Option LeftBehind = first_of (if_so replies Reply) four in
-    let two : Option LeftBehind = first_of (option_map WordInRun run) three in
+    let five : Option LeftBehind = first_there (if_so busy Busy) (if_so error MessageError) in
+    let four : Option LeftBehind = first_there (option_map ShutDown off) five in
+    let three : Option LeftBehind = first_there (if_so replies Reply) four in
+    let two : Option LeftBehind = first_there (option_map WordInRun run) three in
     let e2 : two ≡ None = right_none (option_map Message message) two e in
     let e3 : three ≡ None = right_none (option_map WordInRun run) three e2 in
     let e4 : four ≡ None = right_none (if_so replies Reply) four e3 in
@@ -90,7 +90,7 @@ are_none message run off replies busy error e =
       no_error = so_none error MessageError (right_none (if_so busy Busy) (if_so error MessageError) e5);
     }
 
-clear_of : (m : Member) → left_behind m ≡ None → IsClear m
+clear_of : (m : Member) → what_is_left m ≡ None → IsClear m
 clear_of m e =
     let n = are_none (first_bus (λ b. not (is_idle (open_at m.description m.history b)))) (first_bus (λ b. heard_now m.description (noted_of m) b)) (first_bus (λ b. off_now (noted_of m) b))
     (is_some (reply_now (noted_of m))) (flag_now (noted_of m) BusyFlag) (kept_now m.description (noted_of m)).error e in
@@ -103,14 +103,14 @@ clear_of m e =
       error = λ q. n.no_error;
     }
 
-nothing_left : (m : Member) → IsClear m → left_behind m ≡ None
+nothing_left : (m : Member) → IsClear m → what_is_left m ≡ None
 nothing_left m c =
-    λ j. left_of (first_bus (λ b. not (is_idle (c.message b j)))) (first_bus (λ b. c.run b j)) (first_bus (λ b. c.on b j)) (is_some (c.reply j)) (c.free j) (c.error refl j)
+    λ j. left_among (first_bus (λ b. not (is_idle (c.message b j)))) (first_bus (λ b. c.run b j)) (first_bus (λ b. c.on b j)) (is_some (c.reply j)) (c.free j) (c.error refl j)
 
 all_clear : (members : List Member) → first_left members ≡ None → Each IsClear members
 all_clear [] e = tt
 all_clear (m ∷ members) e = (
-  clear_of m (map_none (λ what. record { address = m.description.address; what = what }) (left_behind m) (left_none (left_at m) (first_left members) e)),
+  clear_of m (map_none (λ what. record { address = m.description.address; what = what }) (what_is_left m) (left_none (left_at m) (first_left members) e)),
   all_clear members (right_none (left_at m) (first_left members) e),
 )
 

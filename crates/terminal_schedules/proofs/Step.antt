@@ -565,9 +565,9 @@ none_from : (r : Option Replying) → not (is_some r) ≡ true → r ≡ None
 none_from None e = refl
 none_from (Some r) e = cc
 
-left_of : (a b : Bool) → a && b ≡ true → a ≡ true
-left_of true b e = refl
-left_of false b e = cc
+left_among : (a b : Bool) → a && b ≡ true → a ≡ true
+left_among true b e = refl
+left_among false b e = cc
 
 right_of : (a b : Bool) → a && b ≡ true → b ≡ true
 right_of true b e = e
@@ -577,8 +577,8 @@ is_at_rest : (t : Shape) → rests t ≡ true → t ≡ at_rest t
 is_at_rest t e = λ j. record t { message = λ b. on_bus b j; reply = none_from t.reply (right_of (idle_seen (t.message B)) (not (is_some t.reply)) (right_of (idle_seen (t.message A)) (idle_seen (t.message B) && not (is_some t.reply)) e)) j }
   where
     on_bus : (b : Bus) → t.message b ≡ Idle
-    on_bus A = idle_from (t.message A) (left_of (idle_seen (t.message A)) (idle_seen (t.message B) && not (is_some t.reply)) e)
-    on_bus B = idle_from (t.message B) (left_of (idle_seen (t.message B)) (not (is_some t.reply)) (right_of (idle_seen (t.message A)) (idle_seen (t.message B) && not (is_some t.reply)) e))
+    on_bus A = idle_from (t.message A) (left_among (idle_seen (t.message A)) (idle_seen (t.message B) && not (is_some t.reply)) e)
+    on_bus B = idle_from (t.message B) (left_among (idle_seen (t.message B)) (not (is_some t.reply)) (right_of (idle_seen (t.message A)) (idle_seen (t.message B) && not (is_some t.reply)) e))
 
 error_masked : (P : Description) (v : SeenEvent) (t : Shape) (r : Bool) → rests t ≡ r → CanMask false P v → seen_error P v t t.error ≡ seen_error P v t (if r then false else t.error)
 error_masked P v t false q n = refl

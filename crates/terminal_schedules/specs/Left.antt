@@ -34,37 +34,37 @@ abbrev pub if_so : Bool → LeftBehind → Option LeftBehind
 if_so test x = if test then Some x else None
 
 -- the first of two that there is
-abbrev pub first_of : {X : Type 0} → Option X → Option X → Option X
-first_of None y = y
-first_of (Some x) y = Some x
+abbrev pub first_there : {X : Type 0} → Option X → Option X → Option X
+first_there None y = y
+first_there (Some x) y = Some x
 
 -- The first that is left behind: a message in progress on a bus, a word for the terminal in the run of one, a reply in progress, a
 -- transmitter shut down, busy, or a message error that is kept.
-abbrev pub left_of : (message run off : Option Bus) → (replies busy error : Bool) → Option LeftBehind
-left_of message run off replies busy error =
-    first_of (option_map Message message)
-    (first_of (option_map WordInRun run)
-    (first_of (if_so replies Reply)
-    (first_of (option_map ShutDown off)
-    (first_of (if_so busy Busy) (if_so error MessageError)))))
+abbrev pub left_among : (message run off : Option Bus) → (replies busy error : Bool) → Option LeftBehind
+left_among message run off replies busy error =
+    first_there (option_map Message message)
+    (first_there (option_map WordInRun run)
+    (first_there (if_so replies Reply)
+    (first_there (option_map ShutDown off)
+    (first_there (if_so busy Busy) (if_so error MessageError)))))
 
 -- what is left behind at a terminal, if it is not clear
-abbrev pub left_behind : Member → Option LeftBehind
-left_behind m =
-    left_of (first_bus (λ b. not (is_idle (open_at m.description m.history b)))) (first_bus (λ b. heard_now m.description (noted_of m) b)) (first_bus (λ b. off_now (noted_of m) b))
+abbrev pub what_is_left : Member → Option LeftBehind
+what_is_left m =
+    left_among (first_bus (λ b. not (is_idle (open_at m.description m.history b)))) (first_bus (λ b. heard_now m.description (noted_of m) b)) (first_bus (λ b. off_now (noted_of m) b))
     (is_some (reply_now (noted_of m))) (flag_now (noted_of m) BusyFlag) (kept_now m.description (noted_of m)).error
 
 -- with the address of the terminal
-abbrev pub at_address : ℕ → Option LeftBehind → Option LeftAt
-at_address a what = option_map (λ what. record { address = a; what = what }) what
+abbrev pub left_there : ℕ → Option LeftBehind → Option LeftAt
+left_there a what = option_map (λ what. record { address = a; what = what }) what
 
 abbrev pub left_at : Member → Option LeftAt
-left_at m = at_address m.description.address (left_behind m)
+left_at m = left_there m.description.address (what_is_left m)
 
 -- of the first terminal that is not clear
 abbrev pub first_left : List Member → Option LeftAt
 first_left [] = None
-first_left (m ∷ members) = first_of (left_at m) (first_left members)
+first_left (m ∷ members) = first_there (left_at m) (first_left members)
 
 -- what is left behind by what happens on the bus, alone from power-up
 abbrev pub left_alone : List Description → List BusEvent → Option LeftAt
@@ -72,7 +72,7 @@ left_alone Ps xs = first_left (play (powered_up Ps) xs)
 
 -- Just of a terminal that is clear nothing is told, and just a message after which all are clear leaves nothing behind.
 pub record LeftTells : Type 0 where
-  pub terminal : (m : Member) → (left_behind m ≡ None) ↔ IsClear m
+  pub terminal : (m : Member) → (what_is_left m ≡ None) ↔ IsClear m
   pub message : (Ps : List Description) (xs : List BusEvent) → (left_alone Ps xs ≡ None) ↔ LeavesClear true Ps xs
 
 -- messages end in any order, and any number of times, as each does alone

@@ -6,7 +6,7 @@ ghost use Rattle.terminal_state.specs.Buses.{on_bus};
 ghost use Rattle.bus_terminal.specs.Stands.{StandsAt};
 ghost use Rattle.terminal_bus.specs.Members.{Member, member_at, play, powered_up};
 ghost use Rattle.terminal_bus.specs.AtMembers.{BusStandsAt};
-ghost use Rattle.terminal_schedules.specs.Left.{first_bus, left_behind, at_address, left_at, first_left, left_alone};
+ghost use Rattle.terminal_schedules.specs.Left.{first_bus, what_is_left, left_there, left_at, first_left, left_alone};
 ghost use Rattle.terminal_schedules.specs.inner.Kept.{bus_of_message, left_by};
 
 use bus_legal::Legality;
@@ -92,15 +92,15 @@ fn left_by(
 /// What is left behind at a terminal: the first of a message in progress, a word for it in the run of a bus, a reply in progress, a
 /// transmitter shut down, busy, and a message error that is kept. None where the terminal is clear.
 pub fn left_behind<L: Legality>(terminal: &Terminal<L>) -> Option<LeftBehind>
-    ensures { (P : Description) (h : List Event) → StandsAt L.is_legal P h terminal.now → result ≡ left_behind (member_at P h) }
+    ensures { (P : Description) (h : List Event) → StandsAt L.is_legal P h terminal.now → result ≡ what_is_left (member_at P h) }
 {
     let kept = terminal.kept();
     left_by(kept.in_progress, kept.heard, kept.reply, kept.registers)
 }
 
 /// The same with the address of the terminal.
-fn at_address(address: u8, what: Option<LeftBehind>) -> Option<LeftAt>
-    ensures { result ≡ at_address address what }
+fn left_there(address: u8, what: Option<LeftBehind>) -> Option<LeftAt>
+    ensures { result ≡ left_there address what }
 {
     match what {
         Some(what) => Some(LeftAt { address, what }),
@@ -114,7 +114,7 @@ fn left_at<L: Legality + Copy>(bus: &TerminalBus<L>, place: usize) -> Option<Lef
 {
     match bus.answer(place) {
         Some(it) => match bus.terminal(place) {
-            Some(terminal) => at_address(it.address, left_behind(&terminal)),
+            Some(terminal) => left_there(it.address, left_behind(&terminal)),
             None => None,
         },
         None => None,

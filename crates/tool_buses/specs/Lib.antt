@@ -1,3 +1,5 @@
 pub mod Troubles
 pub mod LegalCounts
 pub mod Loading
+pub mod Powered
+pub mod Cut

@@ -1,17 +1,25 @@
 //! Which messages of a file don't end well on a bus: each alone from power-up, and in the run of the whole file.
-ghost use Rattle.std.specs.Prelude.{◌≡◌, ◌≤◌, ◌↔◌, IfOk, true};
+ghost use Rattle.std.specs.Prelude.{◌≡◌, ◌≤◌, ◌↔◌, ℕ, List, IfOk, true, option_map};
+ghost use Rattle.bus_legal.specs.Description.{Description};
+ghost use Rattle.refused_lines.specs.Sources.{line_in_file};
 ghost use Rattle.bus_reports.specs.Outcomes.{file_passes, told_among};
+ghost use Rattle.tool_buses.specs.Cut.{IsCutScript, JudgesOrder};
+ghost use Rattle.tool_buses.specs.Powered.{IsPowered};
 ghost use Rattle.tool_buses.specs.Troubles.{IsCheckStatus, told_status};
 
 use crate::messages::{FileMessage, FoundMessages, messages_in};
 use crate::names::BusNames;
+use crate::order::{CutScript, cut_script, judgement_of};
+use crate::parts::ScriptPart;
 use crate::play::{refused_script, warn};
+use crate::rated::rates_in;
+use crate::reading::SaidEvent;
 use crate::refused::script_on_bus;
 use crate::watch::{SpokenTo, WatchedBus};
 use ascii_json::json_line;
 use bus_reports::{
-    CheckOutcome, CheckReport, CheckedProfile, JudgedMessage, Judgement, LoadTimes, check_json,
-    check_junit, judged_text, load_of, told_in,
+    BusLoad, CheckOutcome, CheckReport, CheckedProfile, JudgedMessage, Judgement, LoadTimes,
+    check_json, check_junit, judged_text, load_of, told_in,
 };
 use message_names::owned;
 use rt1553::Normal;
@@ -22,6 +30,7 @@ use std::alloc::{AllocError, Global};
 use std::format;
 use std::io::Write;
 use std::rt::Files;
+use terminal_bus::TerminalBus;
 use tool_files::{
     DIFFERENT, LoadedScript, ToolFault, digest_of, read_script_file, shown, status_or_stop,
     write_bytes,
@@ -33,6 +42,8 @@ pub struct CheckedBus<'a> {
     pub profiles: Vec<CheckedProfile<'a>>,
     /// Of different addresses.
     pub normals: Vec<Normal>,
+    /// Their terminals at power-up, in the order of their addresses.
+    pub bus: TerminalBus<Normal>,
     pub names: BusNames<'a>,
 }
 
@@ -48,16 +59,17 @@ struct JudgedFile {
 fn alone_reasons(
     alloc: Global,
     message: &FileMessage,
-    script: &[u8],
+    parts: &[ScriptPart],
     on: &CheckedBus<'_>,
 ) -> Result<Vec<String>, ToolFault> {
     let mut alone = message.fresh_copy();
-    let mut warnings = Vec::new(alloc);
     let mut watched = WatchedBus::power_up(alloc, on.normals.as_slice(), message.spoken_to)?;
-    if message.from <= message.to && message.to <= script.len() {
-        let lines = &script[message.from..message.to];
-        let _ = watched.play(lines, None, &mut warnings, &mut alone)?;
+    if let Some(part) = parts.get(message.part) {
+        for event in part.events.as_slice() {
+            watched.play_event(event, part.line, &mut alone)?;
+        }
     }
+    watched.end(&mut alone)?;
     Ok(alone.reasons(on.normals.as_slice())?)
 }
 
@@ -65,34 +77,30 @@ fn alone_reasons(
 fn judged_message(
     alloc: Global,
     message: &FileMessage,
-    script: &[u8],
+    parts: &[ScriptPart],
     on: &CheckedBus<'_>,
 ) -> Result<JudgedMessage, ToolFault> {
     Ok(JudgedMessage {
         line: message.line,
         command: message.put.command,
         name: owned(alloc, on.names.name_of(message.put))?,
-        alone: alone_reasons(alloc, message, script, on)?,
+        alone: alone_reasons(alloc, message, parts, on)?,
         in_run: message.reasons(on.normals.as_slice())?,
     })
 }
 
 /// What comes of messages that were played in the run.
-fn judgement_of(
+fn judged_messages(
     alloc: Global,
-    found: &FoundMessages,
-    script: &[u8],
+    messages: &[FileMessage],
+    parts: &[ScriptPart],
     on: &CheckedBus<'_>,
-    times: LoadTimes,
-) -> Result<Judgement, ToolFault> {
-    let mut messages = Vec::new(alloc);
-    for message in found.messages.items.as_slice() {
-        messages.push(judged_message(alloc, message, script, on)?)?;
+) -> Result<Vec<JudgedMessage>, ToolFault> {
+    let mut judged = Vec::new(alloc);
+    for message in messages {
+        judged.push(judged_message(alloc, message, parts, on)?)?;
     }
-    Ok(Judgement {
-        messages,
-        load: load_of(alloc, found.rates.as_slice(), times)?,
-    })
+    Ok(judged)
 }
 
 /// Warns, on the standard error, of comments that look like a rate, and are none.
@@ -110,27 +118,77 @@ fn warn_of_rates<R: AllocGlobal + Eprint>(
     Ok(())
 }
 
-/// Plays the messages of a file to terminals at power-up, each alone and all in their order. A script that is refused has no judgement.
+/// Plays the events of a script in their order, and warns of those that break the discipline of a controller. What comes of its messages
+/// is noted with them.
+fn play_run<R: AllocGlobal + Eprint>(
+    rt: &R,
+    name: &str,
+    script: &LoadedScript,
+    said: &[SaidEvent],
+    found: &mut FoundMessages,
+    on: &CheckedBus<'_>,
+) -> Result<(), ToolFault> {
+    let alloc = rt.alloc();
+    let mut watched = WatchedBus::power_up(alloc, on.normals.as_slice(), SpokenTo::ALL)?;
+    let numbers = found.numbers.as_slice();
+    let warnings = watched.play(alloc, said, numbers, &mut found.messages)?;
+    watched.end(&mut found.messages)?;
+    warn(rt, name, script, warnings.as_slice())
+}
+
+/// The load by the rates of a script, with warnings of comments that look like one.
+fn load_by<R: AllocGlobal + Eprint>(
+    rt: &R,
+    name: &str,
+    script: &LoadedScript,
+    messages: &[FileMessage],
+    times: LoadTimes,
+) -> Result<Option<BusLoad>, ToolFault> {
+    let rates = rates_in(rt.alloc(), script, messages)?;
+    warn_of_rates(rt, name, rates.wrong.as_slice())?;
+    Ok(load_of(rt.alloc(), rates.groups.as_slice(), times)?)
+}
+
+/// What comes of the messages of a script that was cut, which are played to terminals at power-up, each alone and all in their order.
+fn judge_cut<R: AllocGlobal + Eprint>(
+    rt: &R,
+    name: &str,
+    script: &LoadedScript,
+    cut: CutScript,
+    on: &CheckedBus<'_>,
+    times: LoadTimes,
+) -> Result<Judgement, ToolFault>
+    ensures { IfOk result (λ judged. (Ps : List Description) (source : ℕ → ℕ) → IsPowered Ps on.now.bus → IsCutScript Ps source script.now.text.items cut.lefts.items → JudgesOrder Ps source script.now.text.items judged) }
+{
+    let parts = cut.parts.as_slice();
+    let mut found = messages_in(rt.alloc(), parts)?;
+    play_run(rt, name, script, cut.said.as_slice(), &mut found, on)?;
+    let messages = found.messages.items.as_slice();
+    let load = load_by(rt, name, script, messages, times)?;
+    let judged = judged_messages(rt.alloc(), messages, parts, on)?;
+    Ok(judgement_of(judged, cut.lefts, load))
+}
+
+/// Judges the messages of a script. One that is refused has no judgement.
 fn judge_script<R: AllocGlobal + Eprint>(
     rt: &R,
     name: &str,
     script: &LoadedScript,
     on: &CheckedBus<'_>,
     times: LoadTimes,
-) -> Result<Judgement, ToolFault> {
-    let alloc = rt.alloc();
-    let text = script.text.as_slice();
-    let mut found = messages_in(alloc, script)?;
-    let mut warnings = Vec::new(alloc);
-    let mut watched = WatchedBus::power_up(alloc, on.normals.as_slice(), SpokenTo::ALL)?;
-    let numbers = Some(found.numbers.as_slice());
-    let fault = watched.play(text, numbers, &mut warnings, &mut found.messages)?;
-    warn(rt, name, script, warnings.as_slice())?;
-    if let Some(fault) = fault {
-        return Err(refused_script(rt, name, script, fault)?);
+) -> Result<Judgement, ToolFault>
+    ensures { IfOk result (λ judged. (Ps : List Description) → IsPowered Ps on.now.bus → JudgesOrder Ps (line_in_file (option_map (λ lines. lines.items) script.now.sources)) script.now.text.items judged) }
+{
+    let cut = cut_script(
+        rt.alloc(),
+        &on.bus,
+        script.text.as_slice(),
+        script.sources(),
+    )?;
+    match cut.fault {
+        Some(fault) => Err(refused_script(rt, name, script, fault)?),
+        None => judge_cut(rt, name, script, cut, on, times),
     }
-    warn_of_rates(rt, name, found.wrong_rates.as_slice())?;
-    judgement_of(alloc, &found, text, on, times)
 }
 
 /// The addresses of terminals, for which messages are expanded.

@@ -1,20 +1,17 @@
 //! The messages of a file, and what comes of each on a bus.
-ghost use Rattle.std.specs.Prelude.{◌<◌, length};
-
 use crate::legal::legal_text;
 use crate::names::{has_profile, normal_at};
+use crate::parts::ScriptPart;
 use crate::trouble::{CommandTrouble, command_trouble};
 use crate::watch::{ALL_TERMINALS, SpokenTo, TakesMessages};
-use bus_reports::{PutMessage, RateGroup, RateLine, rate_line};
+use bus_reports::PutMessage;
 use bus_word::{Bus, Command};
 use message_rows::{MessageCommands, is_faulty, row_cells};
-use refused_lines::first_line;
 use rt1553::{Event, Normal};
-use script_terminals::read_bus_line;
 use std::alloc::{AllocError, Global};
 use terminal_bus::BusEvent;
 use terminal_messages::{KeptMessage, MessageEnding};
-use tool_files::{LoadedScript, ToolFault};
+use tool_files::ToolFault;
 
 /// Which of the cells of a row tells how it ended, and why.
 const ENDED_CELL: usize = 7;
@@ -48,10 +45,10 @@ pub struct FileMessage {
     alloc: Global,
     /// Its line in the file, from 1.
     pub line: u64,
-    /// Where the lines of its events begin in the script.
-    pub from: usize,
-    /// Where they end.
-    pub to: usize,
+    /// Which part of the script it is, from 0.
+    pub part: usize,
+    /// The line of the script with its first event, from 1.
+    pub said_at: u64,
     /// To which terminals it speaks.
     pub spoken_to: SpokenTo,
     /// Its commands.
@@ -62,27 +59,11 @@ pub struct FileMessage {
     second: CommandResult,
 }
 
-/// A line of a script.
-#[derive(Clone, Copy)]
-struct ScriptLine<'a> {
-    text: &'a [u8],
-    /// The line behind it; empty where there is none.
-    next: &'a [u8],
-    /// Where it begins in the script.
-    from: usize,
-    /// Where the line behind it begins.
-    to: usize,
-    /// The line of the file that it stands for.
-    source: u64,
-    /// The line of the file that the line behind it stands for.
-    next_source: u64,
-}
-
-/// A command in a line of the script that is of no message.
+/// A command that is of no message.
 #[derive(Clone, Copy)]
 struct LoneCommand {
     word: u16,
-    /// How many lines stand before it.
+    /// How many events come before it.
     place: usize,
 }
 
@@ -92,18 +73,12 @@ pub struct FileMessages {
     pub items: Vec<FileMessage>,
 }
 
-/// The messages of a file, and for each line of the script the number of its message, from 1; 0 where it is of none. A lone command has
+/// The messages of a file, and for each event of its script the number of its message, from 1; 0 where it is of none. A lone command has
 /// the number of the message behind it, which makes a transfer with it for terminals that hear no gap between them.
 #[derive(Drop)]
 pub struct FoundMessages {
     pub messages: FileMessages,
     pub numbers: Vec<u64>,
-    /// The rates that comments tell, with the messages that are sent at each.
-    pub rates: Vec<RateGroup>,
-    /// The lines of the file with comments that look like a rate, and are none.
-    pub wrong_rates: Vec<u64>,
-    /// The messages to come are sent at the last rate.
-    is_rated: bool,
     /// The last lone command on bus A behind the messages there.
     lone_a: Option<LoneCommand>,
     /// The same of bus B.
@@ -231,8 +206,8 @@ impl FileMessage {
         FileMessage {
             alloc: self.alloc,
             line: self.line,
-            from: self.from,
-            to: self.to,
+            part: self.part,
+            said_at: self.said_at,
             spoken_to: self.spoken_to,
             put: self.put,
             first: CommandResult::none(self.alloc),
@@ -315,23 +290,22 @@ impl TakesMessages for FileMessages {
     }
 }
 
-/// The command word that a line puts on a bus.
-fn command_in(line: &[u8]) -> Option<(Bus, u16)> {
-    match read_bus_line(line) {
-        Ok(Some(BusEvent::OnBus(Event::Word(bus, word)))) if word.is_command() => {
-            Some((bus, word.bits))
-        }
+/// The command word that an event puts on a bus.
+fn command_in(event: &BusEvent) -> Option<(Bus, u16)> {
+    match event {
+        BusEvent::OnBus(Event::Word(bus, word)) if word.is_command() => Some((*bus, word.bits)),
         _ => None,
     }
 }
 
-/// The message that begins with this line, and with the next, if that has a command, too; None where it begins with no command.
-fn put_at(at: &ScriptLine<'_>) -> Option<PutMessage> {
-    let (bus, command) = command_in(at.text)?;
+/// The message that these events are: two or more, of which the first is a command. The second may be one, too.
+fn put_by(events: &[BusEvent]) -> Option<PutMessage> {
+    let (bus, command) = command_in(events.first()?)?;
+    let second = events.get(1)?;
     Some(PutMessage {
         bus,
         command,
-        transmitter: command_in(at.next).map(|(_, word)| word),
+        transmitter: command_in(second).map(|(_, word)| word),
     })
 }
 
@@ -344,46 +318,31 @@ fn spoken_by(put: PutMessage) -> SpokenTo {
 }
 
 impl FoundMessages {
-    /// Takes note that a line belongs to the message that came last, if that is so. Tells whether it is.
-    fn goes_on(&mut self, at: &ScriptLine<'_>) -> bool {
-        let count = self.messages.items.len();
-        match self
-            .messages
-            .items
-            .as_mut_slice()
-            .get_mut(count.saturating_sub(1))
-        {
-            Some(message) if message.line == at.source => {
-                message.to = at.to;
-                true
-            }
-            _ => false,
-        }
-    }
-
-    /// Adds the message that begins with a line, if it is a command. Tells whether it is.
-    fn begin(&mut self, alloc: Global, at: &ScriptLine<'_>) -> Result<bool, AllocError> {
-        let Some(put) = put_at(at) else {
-            return Ok(false);
-        };
+    /// Adds the message that a part is.
+    fn begin(
+        &mut self,
+        alloc: Global,
+        index: usize,
+        part: &ScriptPart,
+        put: PutMessage,
+    ) -> Result<(), AllocError> {
         self.messages.items.push(FileMessage {
             alloc,
-            line: at.source,
-            from: at.from,
-            to: at.to,
+            line: part.line,
+            part: index,
+            said_at: part.said_at,
             spoken_to: spoken_by(put),
             put,
             first: CommandResult::none(alloc),
             second: CommandResult::none(alloc),
         })?;
-        self.add_to_rate(put)?;
         self.number_lone(put);
-        Ok(true)
+        Ok(())
     }
 
-    /// Takes note of a line that is of no message.
-    fn note_lone(&mut self, at: &ScriptLine<'_>) {
-        if let Some((bus, word)) = command_in(at.text) {
+    /// Takes note of an event that is of no message.
+    fn note_lone(&mut self, event: &BusEvent) {
+        if let Some((bus, word)) = command_in(event) {
             let lone = Some(LoneCommand {
                 word,
                 place: self.numbers.len(),
@@ -411,88 +370,41 @@ impl FoundMessages {
         }
     }
 
-    /// Adds a message to those of the last rate, if it is sent at that.
-    fn add_to_rate(&mut self, put: PutMessage) -> Result<(), AllocError> {
-        let last = self.rates.len().saturating_sub(1);
-        match self.rates.as_mut_slice().get_mut(last) {
-            Some(group) if self.is_rated => Ok(group.messages.push(put)?),
-            _ => Ok(()),
-        }
-    }
-
-    /// Takes note of the rate that a line tells, if it tells one.
-    fn note_rate(&mut self, alloc: Global, at: &ScriptLine<'_>) -> Result<(), AllocError> {
-        match rate_line(at.text) {
-            RateLine::Rate(0) => self.is_rated = false,
-            RateLine::Rate(rate) => {
-                self.is_rated = true;
-                self.rates.push(RateGroup {
-                    line: at.source,
-                    rate,
-                    messages: Vec::new(alloc),
-                })?;
-            }
-            RateLine::Wrong => self.wrong_rates.push(at.source)?,
-            RateLine::Other => {}
+    /// Takes note of a part that is no message.
+    fn note_others(&mut self, part: &ScriptPart) -> Result<(), AllocError> {
+        for event in part.events.as_slice() {
+            self.note_lone(event);
+            self.numbers.push(0)?;
         }
         Ok(())
     }
 
-    /// Takes note of a line. A message gives two events or more, and any other line of the file is one of the script.
-    fn note(&mut self, alloc: Global, at: &ScriptLine<'_>) -> Result<(), AllocError> {
-        self.note_rate(alloc, at)?;
-        let is_of_message = self.goes_on(at)
-            || at.source == at.next_source && self.begin(alloc, at)?;
-        let number = if is_of_message {
-            self.messages.items.len() as u64
-        } else {
-            self.note_lone(at);
-            0
+    /// Takes note of a part.
+    fn note(&mut self, alloc: Global, index: usize, part: &ScriptPart) -> Result<(), AllocError> {
+        let Some(put) = put_by(part.events.as_slice()) else {
+            return self.note_others(part);
         };
-        self.numbers.push(number)?;
+        self.begin(alloc, index, part, put)?;
+        let number = self.messages.items.len() as u64;
+        for _event in part.events.as_slice() {
+            self.numbers.push(number)?;
+        }
         Ok(())
     }
 }
 
-/// The first of these lines, which has this number in the script.
-fn line_at_front<'a>(script: &'a LoadedScript, rest: &'a [u8], number: u64) -> ScriptLine<'a>
-    requires { 0 < length rest.now }
-{
-    let whole = script.text.len();
-    let (text, more) = first_line(rest);
-    ScriptLine {
-        text,
-        next: if more.is_empty() {
-            more
-        } else {
-            first_line(more).0
-        },
-        from: whole.saturating_sub(rest.len()),
-        to: whole.saturating_sub(more.len()),
-        source: script.line_in_file(number),
-        next_source: script.line_in_file(number.saturating_add(1)),
-    }
-}
-
-/// The messages of a file that begin with a command, by its script.
-pub fn messages_in(alloc: Global, script: &LoadedScript) -> Result<FoundMessages, AllocError> {
+/// The messages of a file, by the parts of its script.
+pub fn messages_in(alloc: Global, parts: &[ScriptPart]) -> Result<FoundMessages, AllocError> {
     let mut found = FoundMessages {
         messages: FileMessages {
             items: Vec::new(alloc),
         },
         numbers: Vec::new(alloc),
-        rates: Vec::new(alloc),
-        wrong_rates: Vec::new(alloc),
-        is_rated: false,
         lone_a: None,
         lone_b: None,
     };
-    let mut rest = script.text.as_slice();
-    let mut number = 1u64;
-    while !rest.is_empty() {
-        found.note(alloc, &line_at_front(script, rest, number))?;
-        number = number.saturating_add(1);
-        rest = first_line(rest).1;
+    for (index, part) in parts.iter().enumerate() {
+        found.note(alloc, index, part)?;
     }
     Ok(found)
 }

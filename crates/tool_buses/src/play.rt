@@ -1,10 +1,13 @@
 //! The command `bus`: a script that is played to the terminals of several profiles, on one bus.
 ghost use Rattle.std.specs.Prelude.{◌≡◌, ◌≤◌, IfOk};
+ghost use Rattle.tool_buses.specs.Powered.{IsPowered, described_below};
 ghost use Rattle.tool_buses.specs.Troubles.{IsBusStatus, IsCheckStatus};
 
 use crate::check::{CheckedBus, check_on_bus};
 use crate::list::list_on_bus;
 use crate::names::load_tables;
+use crate::powered::power_up;
+use crate::reading::read_script;
 use crate::watch::{SpokenTo, WatchedBus};
 use bus_reports::CheckedProfile;
 use refused_lines::{first_line, misfit_of};
@@ -101,33 +104,18 @@ fn same_address_text<R: AllocGlobal>(
     Ok(told)
 }
 
-/// Adds the terminals of profiles with this address, of which there is one at most.
-fn add_at<R: AllocGlobal>(
-    rt: &R,
-    bus: &mut TerminalBus<Normal>,
-    names: &[&str],
-    normals: &[Normal],
-    address: u8,
-) -> Result<(), ToolFault> {
-    for normal in normals {
-        if normal.address() == address && bus.add(normal.setup(), *normal).is_err() {
-            return Err(ToolFault::Refused(same_address_text(rt, names, normals, address)?));
-        }
-    }
-    Ok(())
-}
-
-/// A bus of the terminals of profiles, in the order of their addresses.
+/// A bus of the terminals of profiles at power-up, in the order of their addresses.
 fn bus_of<R: AllocGlobal>(
     rt: &R,
     names: &[&str],
     normals: &[Normal],
-) -> Result<TerminalBus<Normal>, ToolFault> {
-    let mut bus = TerminalBus::new();
-    for address in 0..31u8 {
-        add_at(rt, &mut bus, names, normals, address)?;
+) -> Result<TerminalBus<Normal>, ToolFault>
+    ensures { IfOk result (IsPowered (described_below 31 normals.now)) }
+{
+    match power_up(normals) {
+        Ok(bus) => Ok(bus),
+        Err(address) => { Err(ToolFault::Refused(same_address_text(rt, names, normals, address)?)) }
     }
-    Ok(bus)
 }
 
 /// The place of the terminal of this address.
@@ -288,11 +276,12 @@ fn check_bus<'a, R: Files + AllocGlobal + Eprint, W: Write>(
 {
     let profiles = load_all(rt, names)?;
     let normals = normals_of(rt.alloc(), profiles.as_slice())?;
-    let _ = bus_of(rt, names, normals.as_slice())?;
+    let bus = bus_of(rt, names, normals.as_slice())?;
     let tables = load_tables(rt, tables, normals.as_slice())?;
     let on = CheckedBus {
         profiles: checked_profiles(rt.alloc(), names, profiles.as_slice())?,
         normals,
+        bus,
         names: tables,
     };
     check_on_bus(rt, asked, script, &on, output)
@@ -320,7 +309,8 @@ fn play_script<R: Files + AllocGlobal + Eprint, W: Write>(
         }
         BusOutput::Messages => {
             let watched = WatchedBus::power_up(rt.alloc(), normals, SpokenTo::ALL)?;
-            list_on_bus(rt, name, &script, watched, output)
+            let read = read_script(rt.alloc(), &bus, script.text.as_slice())?;
+            list_on_bus(rt, name, &script, &read, watched, output)
         }
         _ => write_played(rt, name, &script, bus, BusTold::Answers, output),
     }

@@ -1,8 +1,7 @@
 //! Terminals on a bus, beside each of which its messages are watched.
-use refused_lines::{first_line, line_in_file};
-use rt1553::{Event, Normal};
-use script_lines::MAX_LINES;
-use script_terminals::{BusLineFault, BusScriptFault, BusWarning, read_bus_line};
+use crate::reading::SaidEvent;
+use rt1553::Normal;
+use script_terminals::BusWarning;
 use std::alloc::{AllocError, Global};
 use terminal_bus::{BusEvent, CameTo, TerminalBus};
 use terminal_messages::{ClosedMessages, KeptMessage, MessageEnding, MessageWatch};
@@ -91,24 +90,6 @@ impl SpokenTo {
     }
 }
 
-/// The event of the line of this number on a bus.
-fn event_in(
-    bus: &TerminalBus<Normal>,
-    number: u64,
-    line: &[u8],
-) -> Result<Option<BusEvent>, BusScriptFault> {
-    if number > MAX_LINES as u64 {
-        return Err(BusScriptFault::TooLong);
-    }
-    match read_bus_line(line) {
-        Ok(Some(BusEvent::Subsystem(address, _))) if !bus.has_terminal(address) => {
-            Err(BusScriptFault::Line(number, BusLineFault::NoTerminal(address)))
-        }
-        Ok(said) => Ok(said),
-        Err(fault) => Err(BusScriptFault::Line(number, fault)),
-    }
-}
-
 impl WatchedBus {
     /// The bus of those terminals of profiles that are spoken to, at power-up and in the order of their addresses.
     pub fn power_up(
@@ -155,7 +136,7 @@ impl WatchedBus {
     }
 
     /// Plays an event under this number, and hands the messages on that are over with it, in the order of the terminals.
-    fn play_event<T: TakesMessages>(
+    pub fn play_event<T: TakesMessages>(
         &mut self,
         event: &BusEvent,
         number: u64,
@@ -172,7 +153,7 @@ impl WatchedBus {
     }
 
     /// Hands the messages on that are left, in the order of the terminals.
-    fn end<T: TakesMessages>(&mut self, taker: &mut T) -> Result<(), ToolFault> {
+    pub fn end<T: TakesMessages>(&mut self, taker: &mut T) -> Result<(), ToolFault> {
         for terminal in self.terminals.iter_mut() {
             let closed = terminal.watch.end();
             terminal.hand_closed(&closed, taker)?;
@@ -180,31 +161,19 @@ impl WatchedBus {
         Ok(())
     }
 
-    /// Plays a script, and hands its messages on as they are over. The events of its lines count under `numbers`, or under the
-    /// numbers of the lines. Gives the fault for which the run ends before the script does.
+    /// Plays the events of a script, each under its number, and hands messages on as they are over. Gives the warnings.
     pub fn play<T: TakesMessages>(
         &mut self,
-        script: &[u8],
-        numbers: Option<&[u64]>,
-        warnings: &mut Vec<BusWarning>,
+        alloc: Global,
+        said: &[SaidEvent],
+        numbers: &[u64],
         taker: &mut T,
-    ) -> Result<Option<BusScriptFault>, ToolFault> {
-        let mut rest = script;
-        let mut line_number = 1u64;
-        while !rest.is_empty() {
-            let (line, more) = first_line(rest);
-            match event_in(&self.bus, line_number, line) {
-                Ok(Some(event)) => {
-                    self.warn_of(&event, line_number, warnings)?;
-                    self.play_event(&event, line_in_file(numbers, line_number), taker)?;
-                }
-                Ok(None) => {}
-                Err(fault) => return Ok(Some(fault)),
-            }
-            line_number = line_number.saturating_add(1);
-            rest = more;
+    ) -> Result<Vec<BusWarning>, ToolFault> {
+        let mut warnings = Vec::new(alloc);
+        for (said, number) in said.iter().zip(numbers) {
+            self.warn_of(&said.event, said.line, &mut warnings)?;
+            self.play_event(&said.event, *number, taker)?;
         }
-        self.end(taker)?;
-        Ok(None)
+        Ok(warnings)
     }
 }

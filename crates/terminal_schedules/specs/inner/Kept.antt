@@ -8,7 +8,7 @@ use Rattle.terminal_state.specs.declared.registers.Registers.{Registers}
 use Rattle.terminal_state.specs.declared.reply.Reply.{Reply}
 use Rattle.terminal_state.specs.Buses.{on_bus}
 use Rattle.terminal_schedules.specs.declared.left.LeftBehind.{LeftBehind}
-use Rattle.terminal_schedules.specs.Left.{first_bus, left_of}
+use Rattle.terminal_schedules.specs.Left.{first_bus, left_among}
 
 abbrev pub bus_of_message : Option Message → Option Bus
 bus_of_message None = None
@@ -16,4 +16,4 @@ bus_of_message (Some m) = Some m.bus
 
 abbrev pub left_by : InProgress → OnBuses → Option Reply → Registers → Option LeftBehind
 left_by m heard reply r =
-    left_of (bus_of_message m.message) (first_bus (λ b. on_bus b heard)) (first_bus (λ b. on_bus b r.off)) (is_some reply) r.flags.busy r.kept.error
+    left_among (bus_of_message m.message) (first_bus (λ b. on_bus b heard)) (first_bus (λ b. on_bus b r.off)) (is_some reply) r.flags.busy r.kept.error

@@ -1,5 +1,5 @@
 use Rattle.std.proofs.Common.{length}
-use Rattle.tool_buses.proofs.messages.messages_in.Given as goal
+use Rattle.tool_buses.proofs.rated.rates_in.Given as goal
 
 abbrev pub decreases-loop-rest : goal.decreases-loop-rest
 decreases-loop-rest l = length l.rest
