@@ -2,7 +2,6 @@
 use Rattle.std.proofs.Common.{◌≡◌, ◌≢◌, ◌∙◌, ◌<◌, ◌≤◌, ◌+◌, ◌==◌, ◌&&◌, ◌||◌, ℕ, suc, Bool, true, false, if◌then◌else◌, Option, Some, None, Result, Ok, Err, is_ok, is_some, OnOk, IfOk, IfNone, List, [], ◌∷◌, ◌++◌, length, take, map, flat_map, filter, get_or, arith, refl, ap, sym, subst, append_assoc, append-nil, eq-eqb}
 use Rattle.std.proofs.lemmas.List.{map-append, take_more}
 use Rattle.std.proofs.lemmas.List.Concat.{flat_map-append}
-use Rattle.std.proofs.lemmas.List.Elements.{filter-append}
 use Rattle.bus_legal.specs.Description.{Description}
 use Rattle.std.specs.Result.{result_err}
 use Rattle.bus_legal.specs.declared.setup.Setup.{Setup}
@@ -26,15 +25,13 @@ use Rattle.script_terminals.specs.declared.playing.BusScriptFault.{BusScriptFaul
 use Rattle.script_terminals.specs.BusReading.{Said, BusReading, adds_said, then_says, bus_reading, said_in}
 use Rattle.tool_buses.specs.declared.reading.SaidEvent.{SaidEvent}
 use Rattle.tool_buses.specs.declared.parts.ScriptPart.{ScriptPart}
-use Rattle.tool_buses.specs.Cut.{said_shown, said_on_line, said_for, said_in_file, said_in_part, NeighboursDiffer, IsCut, reading_shown, part_left, IsCutScript, JudgesOrder}
+use Rattle.tool_buses.specs.Cut.{said_shown, said_on_line, said_for, said_in_file, said_in_part, NeighboursDiffer, part_left, IsCutScript, JudgesOrder}
 use Rattle.bus_reports.specs.declared.judged.PartLeft.{PartLeft}
 use Rattle.bus_reports.specs.declared.judged.Judgement.{Judgement}
 use Rattle.bus_reports.specs.Outcomes.{told_among, leaves_something}
-use Rattle.script_terminals.specs.Playing.{reading_of}
 use Rattle.script_terminals.proofs.PlayLaws.{none_left}
 use Rattle.terminal_schedules.specs.Left.{left_alone}
 use Rattle.terminal_schedules.proofs.OrderLaw.{every_order_law}
-use Rattle.tool_buses.specs.declared.reading.ReadScript.{ReadScript}
 use Rattle.tool_buses.specs.Powered.{IsBusAt, IsPowered, described_at}
 
 -- ---- a script is read
