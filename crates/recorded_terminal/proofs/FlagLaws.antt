@@ -1,6 +1,6 @@
 -- Laws of the ways for all flags that the next status word can show.
-use Rattle.std.proofs.Common.{◌≡◌, ◌∙◌, ℕ, ◌+◌, ◌<◌, ◌≤◌, ◌^◌, arith, Bool, true, false, length, map, ◌⊎◌, inl, inr, Option, Some, None, List, [], ◌∷◌, ◌++◌, refl, sym, ap, subst, take, get_or, add-one}
-use Rattle.std.proofs.lemmas.List.{map-append, get_or_default}
+use Rattle.std.proofs.Common.{◌≡◌, ◌∙◌, ℕ, suc, ◌+◌, ◌<◌, ◌≤◌, ◌^◌, arith, Bool, true, false, length, map, ◌⊎◌, inl, inr, Option, Some, None, List, [], ◌∷◌, ◌++◌, refl, sym, ap, subst, take, get_or, add-one}
+use Rattle.std.proofs.lemmas.List.{map-append, length-map, get_or_default}
 use Rattle.std.specs.List.{AllByRecursion}
 use Rattle.bus_word.specs.declared.word.Bus.TheVariants.{A}
 use Rattle.bus_word.specs.declared.word.Kind.TheVariants.{Com}
@@ -26,9 +26,6 @@ use Rattle.recorded_terminal.proofs.WayLaws.{all_first, all_last, all_join, any_
 use Rattle.recorded_terminal.proofs.WatchLaws.{before_later, leads_waiting, leads_same, leads_copies, found_in}
 
 -- ---- copies
-
-pub no_copies : {L : Type 0} (is_legal : L → Cell → Bool) → AreCopies is_legal [] []
-no_copies is_legal = record { goes = λ P h ms x. x; goes_on = λ P more x. x; long = refl }
 
 pub copies_more : {L : Type 0} (is_legal : L → Cell → Bool) (olds news : List (Way L)) (w c : Way L) → AreCopies is_legal olds news → ((P : Description) (h : List Event) → WayIsAt is_legal P h w → WayIsAt is_legal P h c) → AreCopies is_legal (olds ++ w ∷ []) (news ++ c ∷ [])
 copies_more is_legal olds news w c are copies = record {
@@ -119,7 +116,7 @@ one_parted is_legal ways words parts o parted copies = record {
 
 pub all_parted : {L : Type 0} (is_legal : L → Cell → Bool) (P : Description) (h : List Event) (ms : List Marked) (ways : List (Way L)) (parts : List (FlagWays L)) → ArePartedBy is_legal ways status_words parts → ((status : Option ℕ) → LeadOn is_legal P h ms status ways) →
     LeadOnByFlags is_legal P h ms parts
-all_parted {L = L} is_legal P h ms ways parts parted leads = record { each = on parts parted.each; every = every_by parts parted.are }
+all_parted {L = L} is_legal P h ms ways parts parted leads = record { each = on parts parted.each; every = every_by parts parted.are; few = omega (arith, sym (length-map parts (λ o. o.status)) ∙ ap length parted.are) }
   where
     on : (ps : List (FlagWays L)) → AllByRecursion (λ o. AreCopies is_legal ways o.ways.items) ps → AllByRecursion (λ o. LeadOn is_legal P h ms (Some o.status) o.ways.items) ps
     on [] x = tt
@@ -130,17 +127,17 @@ pub are_parted : {L : Type 0} (is_legal : L → Cell → Bool) (P : Description)
 are_parted is_legal P h ms ways [] some leads = absurd (some refl)
 are_parted is_legal P h ms ways (p ∷ ps) some leads = leads
 
--- ---- settling
+-- ---- choosing
 
 -- the ways lead on for this status word, or one of the parts is for it
-pub record Settles {L : Type 0} (is_legal : L → Cell → Bool) (P : Description) (h : List Event) (ms : List Marked) (status : Option ℕ) (ways : List (Way L)) (parts : List (FlagWays L)) : Type 0 where
+pub record IsChosen {L : Type 0} (is_legal : L → Cell → Bool) (P : Description) (h : List Event) (ms : List Marked) (status : Option ℕ) (ways : List (Way L)) (parts : List (FlagWays L)) : Type 0 where
   pub each : AllByRecursion (λ o. LeadOn is_legal P h ms (Some o.status) o.ways.items) parts
   pub found : LeadOn is_legal P h ms status ways ⊎ AnyOf (λ o. ShowTheSame status (Some o.status)) parts
 
-pub settles_from : {L : Type 0} (is_legal : L → Cell → Bool) (P : Description) (h : List Event) (ms : List Marked) (status : Option ℕ) (ways : List (Way L)) (parts : List (FlagWays L)) → LeadOnBy is_legal P h ms ways parts → Settles is_legal P h ms status ways parts
-settles_from {L = L} is_legal P h ms status ways [] leads = record { each = tt; found = inl (leads status) }
-settles_from {L = L} is_legal P h ms (Some bits) ways (p ∷ ps) leads = record { each = leads.each; found = inr (leads.every bits) }
-settles_from {L = L} is_legal P h ms None ways (p ∷ ps) leads = record { each = leads.each; found = inr (shown (p ∷ ps) (leads.every 0)) }
+pub chosen_from : {L : Type 0} (is_legal : L → Cell → Bool) (P : Description) (h : List Event) (ms : List Marked) (status : Option ℕ) (ways : List (Way L)) (parts : List (FlagWays L)) → LeadOnBy is_legal P h ms ways parts → IsChosen is_legal P h ms status ways parts
+chosen_from {L = L} is_legal P h ms status ways [] leads = record { each = tt; found = inl (leads status) }
+chosen_from {L = L} is_legal P h ms (Some bits) ways (p ∷ ps) leads = record { each = leads.each; found = inr (leads.every bits) }
+chosen_from {L = L} is_legal P h ms None ways (p ∷ ps) leads = record { each = leads.each; found = inr (shown (p ∷ ps) (leads.every 0)) }
   where
     shown : (parts : List (FlagWays L)) → AnyOf (λ o. ShowTheSame (Some 0) (Some o.status)) parts → AnyOf (λ o. ShowTheSame None (Some o.status)) parts
     shown [] x = x
@@ -154,17 +151,17 @@ settles_from {L = L} is_legal P h ms None ways (p ∷ ps) leads = record { each 
     shown (o ∷ parts) (inr x) = inr (shown parts x)
 
 -- the last part is for it
-pub settles_here : {L : Type 0} (is_legal : L → Cell → Bool) (P : Description) (h : List Event) (ms : List Marked) (status : Option ℕ) (ways : List (Way L)) (parts : List (FlagWays L)) (o : FlagWays L) → ShowTheSame status (Some o.status) →
-    Settles is_legal P h ms status ways (parts ++ o ∷ []) → Settles is_legal P h ms status o.ways.items parts
-settles_here is_legal P h ms status ways parts o same s = record {
+pub chosen_here : {L : Type 0} (is_legal : L → Cell → Bool) (P : Description) (h : List Event) (ms : List Marked) (status : Option ℕ) (ways : List (Way L)) (parts : List (FlagWays L)) (o : FlagWays L) → ShowTheSame status (Some o.status) →
+    IsChosen is_legal P h ms status ways (parts ++ o ∷ []) → IsChosen is_legal P h ms status o.ways.items parts
+chosen_here is_legal P h ms status ways parts o same s = record {
   each = all_first (λ p. LeadOn is_legal P h ms (Some p.status) p.ways.items) parts (o ∷ []) s.each;
   found = inl (leads_same is_legal P h ms status (Some o.status) o.ways.items same (all_last (λ p. LeadOn is_legal P h ms (Some p.status) p.ways.items) parts (o ∷ []) s.each).0);
 }
 
 -- or is not
-pub settles_before : {L : Type 0} (is_legal : L → Cell → Bool) (P : Description) (h : List Event) (ms : List Marked) (status : Option ℕ) (ways : List (Way L)) (parts : List (FlagWays L)) (o : FlagWays L) → (ShowTheSame status (Some o.status) → ⊥) →
-    Settles is_legal P h ms status ways (parts ++ o ∷ []) → Settles is_legal P h ms status ways parts
-settles_before is_legal P h ms status ways parts o other s = record {
+pub chosen_before : {L : Type 0} (is_legal : L → Cell → Bool) (P : Description) (h : List Event) (ms : List Marked) (status : Option ℕ) (ways : List (Way L)) (parts : List (FlagWays L)) (o : FlagWays L) → (ShowTheSame status (Some o.status) → ⊥) →
+    IsChosen is_legal P h ms status ways (parts ++ o ∷ []) → IsChosen is_legal P h ms status ways parts
+chosen_before is_legal P h ms status ways parts o other s = record {
   each = all_first (λ p. LeadOn is_legal P h ms (Some p.status) p.ways.items) parts (o ∷ []) s.each;
   found = elim s.found [
     | inl x ↦ inl x
@@ -175,8 +172,8 @@ settles_before is_legal P h ms status ways parts o other s = record {
   ];
 }
 
-pub settled : {L : Type 0} (is_legal : L → Cell → Bool) (P : Description) (h : List Event) (ms : List Marked) (status : Option ℕ) (ways : List (Way L)) → Settles is_legal P h ms status ways [] → LeadOn is_legal P h ms status ways
-settled is_legal P h ms status ways s = elim s.found [ inl x ↦ x | inr x ↦ absurd x ]
+pub chosen_ways : {L : Type 0} (is_legal : L → Cell → Bool) (P : Description) (h : List Event) (ms : List Marked) (status : Option ℕ) (ways : List (Way L)) → IsChosen is_legal P h ms status ways [] → LeadOn is_legal P h ms status ways
+chosen_ways is_legal P h ms status ways s = elim s.found [ inl x ↦ x | inr x ↦ absurd x ]
 
 -- ---- following
 
@@ -192,13 +189,19 @@ part_follows is_legal ws n o p same followed =
     (same, λ bound none P h ms low i. leads_waiting is_legal P h ms ws (Some o.status) o.ways.items p.ways.items i (followed P h ms low bound i.ways) none)
 
 pub parts_follow : {L : Type 0} (is_legal : L → Cell → Bool) (P : Description) (h : List Event) (ms ws : List Marked) (n : ℕ) (olds news : List (FlagWays L)) → P.address ≤ 30 → n + length ws < 2 ^ 64 → next_status (seen_in ws) ≡ None → EachBy (PartFollows is_legal n ws) olds news → LeadOnByFlags is_legal P h ms olds → LeadOnByFlags is_legal P h (ms ++ ws) news
-parts_follow {L = L} is_legal P h ms ws n olds news low bound none follows leads = record { each = each olds news follows leads.each; every = λ bits. every bits olds news follows (leads.every bits) }
+parts_follow {L = L} is_legal P h ms ws n olds news low bound none follows leads = record { each = each olds news follows leads.each; every = λ bits. every bits olds news follows (leads.every bits); few = omega (arith, long olds news follows, leads.few) }
   where
     each : (os ps : List (FlagWays L)) → EachBy (PartFollows is_legal n ws) os ps → AllByRecursion (λ o. LeadOn is_legal P h ms (Some o.status) o.ways.items) os → AllByRecursion (λ o. LeadOn is_legal P h (ms ++ ws) (Some o.status) o.ways.items) ps
     each [] [] f x = tt
     each [] (p ∷ ps) f x = absurd f
     each (o ∷ os) [] f x = absurd f
     each (o ∷ os) (p ∷ ps) (f, fs) (x, xs) = (subst (λ s. LeadOn is_legal P h (ms ++ ws) (Some s) p.ways.items) (sym f.0) (f.1 bound none P h ms low x), each os ps fs xs)
+
+    long : (os ps : List (FlagWays L)) → EachBy (PartFollows is_legal n ws) os ps → length ps ≡ length os
+    long [] [] f = refl
+    long [] (p ∷ ps) f = absurd f
+    long (o ∷ os) [] f = absurd f
+    long (o ∷ os) (p ∷ ps) (f, fs) = ap suc (long os ps fs)
 
     every : (bits : ℕ) (os ps : List (FlagWays L)) → EachBy (PartFollows is_legal n ws) os ps → AnyOf (λ o. ShowTheSame (Some bits) (Some o.status)) os → AnyOf (λ o. ShowTheSame (Some bits) (Some o.status)) ps
     every bits [] [] f x = x

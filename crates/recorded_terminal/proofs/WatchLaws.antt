@@ -331,7 +331,7 @@ pub sees_status : {L : Type 0} (is_legal : L → Cell → Bool) (P : Description
     status ≡ next_status (seen_in (m ∷ [])) → is_some status ≡ true → ws ≡ w.waiting.items ++ m ∷ [] → v.waiting.items ≡ [] → v.followed ≡ w.followed + length ws → v.followed < 2 ^ 64 → v.by_flags.items ≡ [] →
     ((front : List Marked) → LeadOnBy is_legal P h front w.ways.items w.by_flags.items → LeadOn is_legal P h front status olds) →
     ((front : List Marked) → AreWays is_legal P h front olds → Followed is_legal P h front w.followed status ws olds v.ways.items v.first) → WatchesBy is_legal P h (ms ++ m ∷ []) v v.first
-sees_status is_legal P h ms m w v olds ws status none watches here some grown empty seen bound settled leads followed =
+sees_status is_legal P h ms m w v olds ws status none watches here some grown empty seen bound emptied leads followed =
     let i : IsFollowing is_legal P h ms w = follows_still is_legal P h ms w w.first none watches in
     let l : LeadOn is_legal P h i.followed status olds = leads i.followed i.leads in
     by i l v.first (followed i.followed l.ways)
@@ -345,7 +345,7 @@ sees_status is_legal P h ms m w v olds ws status none watches here some grown em
     by : (i : IsFollowing is_legal P h ms w) → LeadOn is_legal P h i.followed status olds → (o : Option Unexplained) → Followed is_legal P h i.followed w.followed status ws olds v.ways.items o → WatchesBy is_legal P h (ms ++ m ∷ []) v o
     by i l None f =
         follows_more is_legal P h ms m w v ws i grown empty seen bound
-        (subst (LeadOnBy is_legal P h (i.followed ++ ws) v.ways.items) (sym settled) (λ next. leads_more is_legal P h i.followed ws status next olds v.ways.items l f (λ later same. (first i later, before i later))))
+        (subst (LeadOnBy is_legal P h (i.followed ++ ws) v.ways.items) (sym emptied) (λ next. leads_more is_legal P h i.followed ws status next olds v.ways.items l f (λ later same. (first i later, before i later))))
       where
         first : IsFollowing is_legal P h ms w → (later : List Sighting) → ShowTheSame (next_status (seen_in ws ++ later)) status
         first i later = subst (λ (l : List Marked). ShowTheSame (next_status (seen_in l ++ later)) status) (sym grown) (before_first status w.waiting.items m [] later (before_status w.waiting.items m status later i.none is))

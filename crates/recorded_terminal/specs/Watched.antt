@@ -50,6 +50,7 @@ pub record LeadOn {L : Type 0} (is_legal : L → Cell → Bool) (P : Description
 pub record LeadOnByFlags {L : Type 0} (is_legal : L → Cell → Bool) (P : Description) (h : List Event) (ms : List Marked) (parts : List (FlagWays L)) : Type 0 where
   pub each : AllByRecursion (λ o. LeadOn is_legal P h ms (Some o.status) o.ways.items) parts
   pub every : (bits : ℕ) → AnyOf (λ o. ShowTheSame (Some bits) (Some o.status)) parts
+  pub few : length parts ≤ 16
 
 -- the ways that lead on, whatever the next status word shows; or those for the flags that it can show
 abbrev pub LeadOnBy : {L : Type 0} → (L → Cell → Bool) → Description → List Event → List Marked → List (Way L) → List (FlagWays L) → Type 0

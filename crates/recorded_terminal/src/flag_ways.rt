@@ -76,13 +76,13 @@ pub fn part_by_flags<L: Legality + Copy + Drop>(
 }
 
 /// Leaves the ways for this status word, the next.
-pub fn settle<L: Legality + Drop>(
+pub fn choose_flags<L: Legality + Drop>(
     ways: &mut Vec<Way<L>>,
     by_flags: &mut Vec<FlagWays<L>>,
     status: Option<u16>,
 )
     ensures leads { (P : Description) (h : List Event) (ms : List Marked) → LeadOnBy L.is_legal P h ms ways.old.items by_flags.old.items → LeadOn L.is_legal P h ms status ways.new.items }
-    ensures settled { by_flags.new.items ≡ [] }
+    ensures emptied { by_flags.new.items ≡ [] }
 {
     while let Some(others) = by_flags.pop() {
         if show_the_same(status, Some(others.status)) {

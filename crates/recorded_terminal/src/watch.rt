@@ -15,7 +15,7 @@ ghost use Rattle.recorded_terminal.specs.inner.Followed.{Followed};
 ghost use Rattle.recorded_terminal.specs.Ways.{AreWays};
 ghost use Rattle.recorded_terminal.specs.declared.watch.WatchFault.TheVariants.{Memory, TooManyWays};
 
-use crate::flag_ways::{FlagWays, follow_by_flags, part_by_flags, settle};
+use crate::flag_ways::{FlagWays, choose_flags, follow_by_flags, part_by_flags};
 use crate::follower::Follower;
 use crate::sighting::Sighting;
 use crate::told::shown_status;
@@ -207,7 +207,7 @@ impl<L: Legality + Copy + Drop> Watch<L> {
             return Err(WatchFault::Memory);
         };
         if status.is_some() {
-            settle(&mut self.ways, &mut self.by_flags, status);
+            choose_flags(&mut self.ways, &mut self.by_flags, status);
             self.first = follow(
                 self.alloc,
                 &mut self.ways,
@@ -248,7 +248,7 @@ impl<L: Legality + Copy + Drop> Watch<L> {
         if first.is_some() {
             return Ok(first);
         }
-        settle(&mut ways, &mut by_flags, None);
+        choose_flags(&mut ways, &mut by_flags, None);
         follow(alloc, &mut ways, followed, waiting.as_slice(), None)
     }
 }

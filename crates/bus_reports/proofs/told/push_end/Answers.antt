@@ -1,4 +1,4 @@
-use Rattle.std.proofs.Common.{ℕ, ◌≡◌, List, Bool, if◌then◌else◌, OnOk, codes, ap, sym, subst, eq-eqb}
+use Rattle.std.proofs.Common.{ℕ, ◌≡◌, Bool, if◌then◌else◌, OnOk, codes, ap, sym, subst, eq-eqb}
 use Rattle.std.proofs.lemmas.Bool.{ne_eqb}
 use Rattle.std.specs.String.{string_bytes}
 use Rattle.bus_reports.specs.Outcomes.{EndsWith, last_words, well_words}

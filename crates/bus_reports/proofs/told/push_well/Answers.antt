@@ -1,4 +1,4 @@
-use Rattle.std.proofs.Common.{◌≡◌, OnOk, ap, sym, subst, codes, if◌then◌else◌}
+use Rattle.std.proofs.Common.{OnOk, sym, subst, if◌then◌else◌}
 use Rattle.std.specs.String.{string_bytes}
 use Rattle.bus_reports.specs.Outcomes.{EndsWith, well_words}
 use Rattle.bus_reports.proofs.Ends.{ends}

@@ -16,8 +16,8 @@ returns-clause-first g c =
     if_ok c.follow.result _ _
     (λ result x P h ms watches.
     let i : IsFollowing legal P h ms c.args.self = follows_still legal P h ms c.args.self c.args.self.first (search rules) watches.1 in
-    let olds = c.settle.new.ways.items in
-    ended legal P h ms c.args.self olds c.follow.new.ways.items result i (c.settle.ensures.leads P h i.followed i.leads)
+    let olds = c.choose_flags.new.ways.items in
+    ended legal P h ms c.args.self olds c.follow.new.ways.items result i (c.choose_flags.ensures.leads P h i.followed i.leads)
     (subst (λ ws. c.args.self.followed + length ws < 2 ^ 64 → AreWays legal P h i.followed olds → Followed legal P h i.followed c.args.self.followed None ws olds c.follow.new.ways.items result)
     c.as_slice.ensures.value (x P h i.followed watches.0)))
     c.follow.ensures.found
@@ -28,5 +28,5 @@ returns-clause-refused g c =
     if_err c.follow.result _ _
     (λ fault x same P h ms watches.
     let i : IsFollowing legal P h ms c.args.self = follows_still legal P h ms c.args.self c.args.self.first (search rules) watches.1 in
-    subst (λ l. HasManyWays (maybe_in l)) (ap (λ l. i.followed ++ l) c.as_slice.ensures.value ∙ sym i.all) (x same P h i.followed watches.0 (c.settle.ensures.leads P h i.followed i.leads).ways))
+    subst (λ l. HasManyWays (maybe_in l)) (ap (λ l. i.followed ++ l) c.as_slice.ensures.value ∙ sym i.all) (x same P h i.followed watches.0 (c.choose_flags.ensures.leads P h i.followed i.leads).ways))
     c.follow.ensures.refused

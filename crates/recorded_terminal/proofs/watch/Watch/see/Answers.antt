@@ -28,9 +28,9 @@ returns-clause-sees g c P h ms watches =
         | then-is_some-2+in_ok-self w ↦
             subst sees (sym w.self-is)
             (sees_status legal P h ms c.args.marked old
-            (record { alloc = old.alloc; ways = w.follow.new.ways; by_flags = w.settle.new.by_flags; followed = c.in-Some.seen; waiting = c.clear.new.self; first = w.in_ok-self.field-0 })
-            w.settle.new.ways.items w.as_slice.result.now c.status_in-status.result (search rules) watches.1 c.status_in-status.ensures (search rules) (w.as_slice.ensures.value ∙ c.in_ok-push.ensures.items) c.clear.ensures.items (search rules) (search rules) w.settle.ensures.settled
-            (λ front leads. w.settle.ensures.leads P h front leads)
+            (record { alloc = old.alloc; ways = w.follow.new.ways; by_flags = w.choose_flags.new.by_flags; followed = c.in-Some.seen; waiting = c.clear.new.self; first = w.in_ok-self.field-0 })
+            w.choose_flags.new.ways.items w.as_slice.result.now c.status_in-status.result (search rules) watches.1 c.status_in-status.ensures (search rules) (w.as_slice.ensures.value ∙ c.in_ok-push.ensures.items) c.clear.ensures.items (search rules) (search rules) w.choose_flags.ensures.emptied
+            (λ front leads. w.choose_flags.ensures.leads P h front leads)
             (λ front ways. w.in_ok-self.ensures.found P h front watches.0 (search rules) ways))
         | else-is_some-2+then-len-ge-MOST_WAITING+in_ok-part_by_flags+in_ok-self-2 w ↦
             subst sees (sym w.self-is)
@@ -53,7 +53,7 @@ returns-in_err-self-clause-refused g c =
     rw (p.1, p.2) (λ same P h ms watches.
     let i : IsFollowing legal P h ms old = follows_still legal P h ms old old.first (search rules) watches.1 in
     many_waiting legal P h ms c.args.marked old i c.as_slice.result.now (c.as_slice.ensures.value ∙ c.in_ok-push.ensures.items)
-    (c.in_err-self.ensures.refused same P h i.followed watches.0 (c.settle.ensures.leads P h i.followed i.leads).ways))
+    (c.in_err-self.ensures.refused same P h i.followed watches.0 (c.choose_flags.ensures.leads P h i.followed i.leads).ways))
 
 pub returns-in_err-self-2-clause-refused : goal.returns-in_err-self-2-clause-refused
 returns-in_err-self-2-clause-refused g c =
