@@ -21,8 +21,9 @@ CUT = "A c 2821\n#? A gap\n"
 BESIDE = "A c 2822\nA d 0001\n#? A gap\nB c 2c02\nA gap\nB gap\nslot\n"
 # over 1,048,576 bytes: it is read on while it is judged
 LONG = f"{ASK}#> A s 2800\n" * 40000
-# a broadcast, and then more gaps than are kept behind a status word
-QUIET = "A c f881\nA d 0001\n" + "A gap\n" * 20000
+# more gaps than are kept behind a status word, and a broadcast before them
+QUIET = "A gap\n" * 20000
+TOLD_ALL = f"A c f881\nA d 0001\n{QUIET}"
 FAULT = f"{ASK}#> A s 2820\n"
 # the last line of what `recording` writes if it refuses its table
 EARLY_END = "#! row 4 was refused; rows written: 2\n"
@@ -119,11 +120,11 @@ RECORDINGS = with_files(
         "long:160003: another status word: reserved bit 3 is set, in RT 5 mode code 2: recorded A s 2820; the terminal sends A s 2800\nlong: differences: 1\n", files={"long": LONG + FAULT}),
     Row("a line at its end that is refused", "verify --any-subsystem five long", 2,
         errors="long:160002: error: the event before it cannot have this answer\n", files={"long": f"{LONG}A c 2c02\n#> A s 2820\n"}),
-    Row("the kept status behind many gaps, of a subsystem that was busy", "verify --any-subsystem whole quiet", files={"quiet": f"{QUIET}{ASK}#> A s 2818\n"}),
+    Row("the kept status behind many gaps, of a subsystem that was busy", "verify --any-subsystem whole quiet", files={"quiet": f"{TOLD_ALL}{ASK}#> A s 2818\n"}),
     Row("a fault behind many gaps", "verify --any-subsystem whole quiet", 1,
-        "quiet:20006: another status word: reserved bit 3 is set, in RT 5 mode code 2: recorded A s 2838; the terminal sends A s 2818\nquiet: differences: 1\n", files={"quiet": f"{QUIET}{ASK}#> A s 2838\n"}),
-    Row("a word where none can come, before many gaps", "verify --any-subsystem whole quiet", 1,
-        "quiet:3: the reply is too long: recorded A s 2810; the terminal sends nothing\nquiet: differences: 1\n", files={"quiet": f"A c f881\nA d 0001\n#> A s 2810\n{QUIET}"}),
+        "quiet:20005: another status word: reserved bit 3 is set, in RT 5 mode code 2: recorded A s 2838; the terminal sends A s 2818\nquiet: differences: 1\n", files={"quiet": f"{TOLD_ALL}{ASK}#> A s 2838\n"}),
+    Row("a fault among many gaps", "verify --any-subsystem whole quiet", 1,
+        "quiet:20001: the reply is too long: recorded A d 0001; the terminal sends nothing\nquiet: differences: 1\n", files={"quiet": f"{QUIET}slot\n#> A d 0001\n{QUIET}"}),
     Row("a long recording that began later", "verify --any-subsystem --already-on five long", 1,
         "long:160012: another status word: reserved bit 3 is set, in RT 5 mode code 2: recorded A s 2820; the terminal sends A s 2800\nlong: differences: 1\n",
         "long: judged after line 5\n", files={"long": f"{PAUSE}{AGAIN}#> A s 2800\n{LONG}{FAULT}"}),
