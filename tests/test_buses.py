@@ -67,7 +67,7 @@ CHECKED = {
     "no profile has address": 40, "no terminal takes the broadcast": 40, "illegal": 150, "busy": 8, "done: transmitter shut down": 3,
     "in error: wrong word count": 20, "in error: no status from the transmitter": 1,
     "takes it for no message": 20, "ignored: during a reply": 1, "commands of two lines in a message": 10,
-    "in every order": 1, "in this order": 1, "leaves: in a message": 20,
+    "in every order": 1, "leaves: in a message": 20,
     "leaves: with its transmitter shut down": 10, "leaves: busy": 20, "leaves: with message error in the status that it keeps": 50,
     "loads to 100 %": 10, "loads over 100 %": 20, "rated: data": 40, "rated: data to all": 5, "rated: mode code": 20, "rated: mode code to all": 4,
     "rated: transfer": 20, "rated: transfer to all": 4, "legal for some words": 10, "not legal": 30, "transfers without words": 20,

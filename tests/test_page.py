@@ -137,7 +137,7 @@ def test_profile_and_script_are_typed(browser, page, shipped, tmp_path):
     beside = re.sub(r"\s*\n\s*", "|", browser.value("document.querySelector('#script-editor .beside').innerText"))
     assert "hand receive own 03 1111 2222|A s 4800" in beside
     rows = re.sub(r"\s*\n\s*", "|", browser.value("document.querySelector('#rows .space').innerText"))
-    assert rows == "1|1|A|rx|9|3|2|done|1111 2222|4800|receive own 03 1111 2222|2|6|A|tx|9|3|2|done|1111 2222|4800|3|11|B|mode|9|mode 19|done|beef|4800"
+    assert rows == "1|1|A|rx|9|3|2|done|1111 2222|4800|receive own 03 1111 2222|2|6|A|tx|9|3|2|done|0001 00ff|4800|3|11|B|mode|9|mode 19|done|beef|4800"
 
 
 def test_what_is_wrong_stands_at_its_field(browser):
