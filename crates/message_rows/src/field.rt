@@ -19,7 +19,9 @@ use std::alloc::{AllocError, Global};
 use std::fmt;
 use terminal_messages::KeptMessage;
 
-/// Room for the text of a field, and for that of a row.
+/// The text of a field, and that of a row.
+type FieldText = ArrayString<512>;
+
 pub type RowText = ArrayString<8192>;
 
 /// A field of a row. Where there is no text, number, word or command, nothing is told.
@@ -50,8 +52,8 @@ pub enum Field<'a> {
 }
 
 /// Adds a number.
-fn push_decimal(text: &mut RowText, number: u64)
-    requires { array_string_len text.old + 40 ≤ 8192 }
+fn push_decimal<const N: usize>(text: &mut ArrayString<N>, number: u64)
+    requires { array_string_len text.old + 40 ≤ N }
     ensures bytes { text.new.bytes ≡ text.old.bytes ++ decimal number }
     ensures len { array_string_len text.new ≤ array_string_len text.old + 40 }
 {
@@ -60,8 +62,8 @@ fn push_decimal(text: &mut RowText, number: u64)
 }
 
 /// Adds the subaddress of a command, or its mode code.
-fn push_place(text: &mut RowText, command: Command)
-    requires { array_string_len text.old + 45 ≤ 8192 }
+fn push_place<const N: usize>(text: &mut ArrayString<N>, command: Command)
+    requires { array_string_len text.old + 45 ≤ N }
     ensures bytes { text.new.bytes ≡ text.old.bytes ++ place_shown command }
     ensures len { array_string_len text.new ≤ array_string_len text.old + 45 }
 {
@@ -72,8 +74,8 @@ fn push_place(text: &mut RowText, command: Command)
 }
 
 /// Adds the address of a command, and its subaddress or mode code.
-fn push_transmitter(text: &mut RowText, command: Command)
-    requires { array_string_len text.old + 86 ≤ 8192 }
+fn push_transmitter<const N: usize>(text: &mut ArrayString<N>, command: Command)
+    requires { array_string_len text.old + 86 ≤ N }
     ensures bytes { text.new.bytes ≡ text.old.bytes ++ transmitter_told (Some command) }
     ensures len { array_string_len text.new ≤ array_string_len text.old + 86 }
 {
@@ -83,8 +85,8 @@ fn push_transmitter(text: &mut RowText, command: Command)
 }
 
 /// Adds words, each behind a space.
-fn push_behind(text: &mut RowText, words: &[u16])
-    requires { array_string_len text.old + 5 * length words.now ≤ 8192 }
+fn push_behind<const N: usize>(text: &mut ArrayString<N>, words: &[u16])
+    requires { array_string_len text.old + 5 * length words.now ≤ N }
     ensures bytes { text.new.bytes ≡ text.old.bytes ++ flat_map word_field words.now }
     ensures len { array_string_len text.new ≡ array_string_len text.old + 5 * length words.now }
 {
@@ -95,8 +97,8 @@ fn push_behind(text: &mut RowText, words: &[u16])
 }
 
 /// Adds words with a space between two.
-fn push_spaced(text: &mut RowText, words: &[u16])
-    requires { array_string_len text.old + 5 * length words.now ≤ 8192 }
+fn push_spaced<const N: usize>(text: &mut ArrayString<N>, words: &[u16])
+    requires { array_string_len text.old + 5 * length words.now ≤ N }
     ensures bytes { text.new.bytes ≡ text.old.bytes ++ spaced words.now }
     ensures len { array_string_len text.new ≤ array_string_len text.old + 5 * length words.now }
 {
@@ -108,8 +110,8 @@ fn push_spaced(text: &mut RowText, words: &[u16])
 }
 
 /// Adds data words, and how many are left out.
-fn push_words(text: &mut RowText, words: &[u16], left_out: u64)
-    requires { array_string_len text.old + (5 * length words.now + 50) ≤ 8192 }
+fn push_words<const N: usize>(text: &mut ArrayString<N>, words: &[u16], left_out: u64)
+    requires { array_string_len text.old + (5 * length words.now + 50) ≤ N }
     ensures bytes { text.new.bytes ≡ text.old.bytes ++ words_told words.now left_out }
     ensures len { array_string_len text.new ≤ array_string_len text.old + (5 * length words.now + 50) }
 {
@@ -134,8 +136,13 @@ fn received_front(broadcast: bool) -> &'static str
 }
 
 /// Adds what was received.
-fn push_received(text: &mut RowText, broadcast: bool, subaddress: u8, words: &[u16])
-    requires room { array_string_len text.old + (20 + 5 * length words.now) ≤ 8192 }
+fn push_received<const N: usize>(
+    text: &mut ArrayString<N>,
+    broadcast: bool,
+    subaddress: u8,
+    words: &[u16],
+)
+    requires room { array_string_len text.old + (20 + 5 * length words.now) ≤ N }
     ensures bytes { text.new.bytes ≡ text.old.bytes ++ handing_told (HandsReceived broadcast subaddress words.now) }
     ensures len { array_string_len text.new ≤ array_string_len text.old + (20 + 5 * length words.now) }
 {
@@ -145,8 +152,8 @@ fn push_received(text: &mut RowText, broadcast: bool, subaddress: u8, words: &[u
 }
 
 /// Adds what was handed over, as it stands in a transcript behind `hand `.
-fn push_handed(text: &mut RowText, handed: &CopiedAnswer)
-    requires { array_string_len text.old + 180 ≤ 8192 }
+fn push_handed<const N: usize>(text: &mut ArrayString<N>, handed: &CopiedAnswer)
+    requires { array_string_len text.old + 180 ≤ N }
     ensures bytes { text.new.bytes ≡ text.old.bytes ++ handed_told (handed_in (shown_copy handed.now)) }
     ensures len { array_string_len text.new ≤ array_string_len text.old + 180 }
 {
@@ -168,9 +175,15 @@ fn push_handed(text: &mut RowText, handed: &CopiedAnswer)
 }
 
 /// Adds the name of the bit of this place value, if it is set: behind a space, if something stands before it.
-fn push_bit(text: &mut RowText, word: u16, is_behind: bool, place: u16, name: &str)
+fn push_bit<const N: usize>(
+    text: &mut ArrayString<N>,
+    word: u16,
+    is_behind: bool,
+    place: u16,
+    name: &str,
+)
     requires place { 0 < place }
-    requires room { array_string_len text.old + 16 ≤ 8192 }
+    requires room { array_string_len text.old + 16 ≤ N }
     requires name { length name.now ≤ 15 }
     ensures bytes { text.new.bytes ≡ text.old.bytes ++ bit_named is_behind word place name.now }
     ensures len { array_string_len text.new ≤ array_string_len text.old + 16 }
@@ -184,8 +197,8 @@ fn push_bit(text: &mut RowText, word: u16, is_behind: bool, place: u16, name: &s
 }
 
 /// Adds the bits that are set, with a space between two; behind a word also before the first.
-fn push_bits(text: &mut RowText, word: u16, is_behind: bool)
-    requires { array_string_len text.old + 176 ≤ 8192 }
+fn push_bits<const N: usize>(text: &mut ArrayString<N>, word: u16, is_behind: bool)
+    requires { array_string_len text.old + 176 ≤ N }
     ensures bytes { text.new.bytes ≡ text.old.bytes ++ bits_told is_behind word }
     ensures len { array_string_len text.new ≤ array_string_len text.old + 176 }
 {
@@ -196,8 +209,8 @@ fn push_bits(text: &mut RowText, word: u16, is_behind: bool)
 }
 
 /// Adds a status word, and its bits.
-fn push_status(text: &mut RowText, word: u16)
-    requires { array_string_len text.old + 180 ≤ 8192 }
+fn push_status<const N: usize>(text: &mut ArrayString<N>, word: u16)
+    requires { array_string_len text.old + 180 ≤ N }
     ensures bytes { text.new.bytes ≡ text.old.bytes ++ status_told (Some word) }
     ensures len { array_string_len text.new ≤ array_string_len text.old + 180 }
 {
@@ -206,8 +219,8 @@ fn push_status(text: &mut RowText, word: u16)
 }
 
 /// Adds how a message ended, and why.
-fn push_end(text: &mut RowText, message: &KeptMessage)
-    requires { array_string_len text.old + 100 ≤ 8192 }
+fn push_end<const N: usize>(text: &mut ArrayString<N>, message: &KeptMessage)
+    requires { array_string_len text.old + 100 ≤ N }
     ensures bytes { text.new.bytes ≡ text.old.bytes ++ with_why (end_name message.now.state.«end») (why message.now.state.«end» message.now.state.unsent) }
     ensures len { array_string_len text.new ≤ array_string_len text.old + 100 }
 {
@@ -219,8 +232,8 @@ fn push_end(text: &mut RowText, message: &KeptMessage)
 }
 
 /// Adds what a field says: at most 400 bytes, if it is no longer text.
-pub fn push_field_text(text: &mut RowText, field: &Field<'_>)
-    requires room { array_string_len text.old + 400 ≤ 8192 }
+pub fn push_field_text<const N: usize>(text: &mut ArrayString<N>, field: &Field<'_>)
+    requires room { array_string_len text.old + 400 ≤ N }
     requires short { IsShortField field.now }
     ensures bytes { text.new.bytes ≡ text.old.bytes ++ field_told field.now }
     ensures len { array_string_len text.new ≤ array_string_len text.old + 400 }
@@ -255,7 +268,7 @@ impl fmt::Display for Field<'_> {
         if let Field::Text(told) = *self {
             return f.write_str(told.unwrap_or(""));
         }
-        let mut text = RowText::new();
+        let mut text = FieldText::new();
         push_field_text(&mut text, self);
         f.write_str(text.as_str())
     }
