@@ -23,15 +23,15 @@ use Rattle.terminal_schedules.proofs.Said.{CanSay}
 use Rattle.terminal_schedules.proofs.Twins.{map_both, map_join, In, each_in, in_map, each_from, each_map, each_unmap, two_map, Twin, first, second, firsts, seconds, Apart, AlikeTwin, AreAlike, said_alike, CanSayTwin, comes_alike, twin_after, twins_after, firsts_after, seconds_after, after_alike, says_member, CanMaskAll, CanMaskTwin}
 
 -- both runs, event after event
-abbrev twins_play : List Twin → List BusEvent → List Twin
+abbrev pub twins_play : List Twin → List BusEvent → List Twin
 twins_play ts [] = ts
 twins_play ts (x ∷ xs) = twins_play (twins_after ts x) xs
 
-firsts_play : (ts : List Twin) (xs : List BusEvent) → play (firsts ts) xs ≡ firsts (twins_play ts xs)
+pub firsts_play : (ts : List Twin) (xs : List BusEvent) → play (firsts ts) xs ≡ firsts (twins_play ts xs)
 firsts_play ts [] = refl
 firsts_play ts (x ∷ xs) = ap (λ ms. play ms xs) (firsts_after ts x) ∙ firsts_play (twins_after ts x) xs
 
-seconds_play : (ts : List Twin) (xs : List BusEvent) → play (seconds ts) xs ≡ seconds (twins_play ts xs)
+pub seconds_play : (ts : List Twin) (xs : List BusEvent) → play (seconds ts) xs ≡ seconds (twins_play ts xs)
 seconds_play ts [] = refl
 seconds_play ts (x ∷ xs) = ap (λ ms. play ms xs) (seconds_after ts x) ∙ seconds_play (twins_after ts x) xs
 
@@ -48,7 +48,7 @@ each_free : (ms : List Member) → Each (λ m. CanSay false (member_reply m)) ms
 each_free [] = tt
 each_free (m ∷ ms) = (tt, each_free ms)
 
-any_data : (ms : List Member) (xs : List BusEvent) → MaySay false ms xs
+pub any_data : (ms : List Member) (xs : List BusEvent) → MaySay false ms xs
 any_data ms [] = tt
 any_data ms (x ∷ xs) = (each_free ms, any_data (bus_after ms x) xs)
 
@@ -99,7 +99,7 @@ twins_masked e z ts x a u = each_twin (CanMaskTwin e z ts x) ts (λ t h. by_even
         by_address true = (event_can z e t.description y q, tt)
         by_address false = tt
 
-play_alike : (e z : Bool) (ts : List Twin) (xs : List BusEvent) → AreAlike e z ts → MaySay e (seconds ts) xs → Unasked z xs → AreAlike e z (twins_play ts xs)
+pub play_alike : (e z : Bool) (ts : List Twin) (xs : List BusEvent) → AreAlike e z ts → MaySay e (seconds ts) xs → Unasked z xs → AreAlike e z (twins_play ts xs)
 play_alike e z ts [] a c u = a
 play_alike e z ts (x ∷ xs) a c u =
     play_alike e z (twins_after ts x) xs (after_alike e z ts x a (twins_say e z ts a c.0) (twins_masked e z ts x a (λ q. (u q).0))) (subst (λ ms. MaySay e ms xs) (seconds_after ts x) c.1) (λ q. (u q).1)
@@ -168,14 +168,14 @@ descriptions ms = map (λ (m : Member). m.description) ms
 abbrev twin_of : Member → Twin
 twin_of m = record { description = m.description; one = m.history; two = [] }
 
-abbrev twins_of : List Member → List Twin
+abbrev pub twins_of : List Member → List Twin
 twins_of ms = map twin_of ms
 
-firsts_of : (ms : List Member) → firsts (twins_of ms) ≡ ms
+pub firsts_of : (ms : List Member) → firsts (twins_of ms) ≡ ms
 firsts_of [] = refl
 firsts_of (m ∷ ms) = ap (λ ns. m ∷ ns) (firsts_of ms)
 
-seconds_of : (ms : List Member) → seconds (twins_of ms) ≡ powered_up (descriptions ms)
+pub seconds_of : (ms : List Member) → seconds (twins_of ms) ≡ powered_up (descriptions ms)
 seconds_of [] = refl
 seconds_of (m ∷ ms) = ap (λ ns. member_of m.description ∷ ns) (seconds_of ms)
 
@@ -187,7 +187,7 @@ pub in_has : (ms : List Member) (m : Member) → Has ms m → In ms m
 in_has [] m h = absurd h
 in_has (n ∷ ms) m h = elim h [ inl q ↦ inl q | inr q ↦ inr (in_has ms m q) ]
 
-twins_alike : (e z : Bool) (ms : List Member) → AddressesDiffer (descriptions ms) → Each (λ P. P.address ≤ 30) (descriptions ms) → Each (IsClearIf z) ms → AreAlike e z (twins_of ms)
+pub twins_alike : (e z : Bool) (ms : List Member) → AddressesDiffer (descriptions ms) → Each (λ P. P.address ≤ 30) (descriptions ms) → Each (IsClearIf z) ms → AreAlike e z (twins_of ms)
 twins_alike e z ms differ low clear = record {
   apart = two_map Apart twin_of ms (two_unmap (λ P Q. P.address ≢ Q.address) (λ (m : Member). m.description) ms differ);
   low = each_map (λ (t : Twin). t.description.address ≤ 30) twin_of ms (each_unmap (λ P. P.address ≤ 30) (λ (m : Member). m.description) ms low);

@@ -14,3 +14,4 @@ pub mod Status
 pub mod OrderLaw
 pub mod LeftLaw
 pub mod BusLaw
+pub mod ClearLaw

@@ -107,7 +107,7 @@ nothing_left : (m : Member) → IsClear m → what_is_left m ≡ None
 nothing_left m c =
     λ j. left_among (first_bus (λ b. not (is_idle (c.message b j)))) (first_bus (λ b. c.run b j)) (first_bus (λ b. c.on b j)) (is_some (c.reply j)) (c.free j) (c.error refl j)
 
-all_clear : (members : List Member) → first_left members ≡ None → Each IsClear members
+pub all_clear : (members : List Member) → first_left members ≡ None → Each IsClear members
 all_clear [] e = tt
 all_clear (m ∷ members) e = (
   clear_of m (map_none (λ what. record { address = m.description.address; what = what }) (what_is_left m) (left_none (left_at m) (first_left members) e)),

@@ -1,8 +1,9 @@
 -- What of a message is left behind, and at which terminal.
-use Rattle.std.specs.Prelude.{ℕ, ◌≡◌, ◌≤◌, Bool, true, false, not, if◌then◌else◌, Option, Some, None, is_some, List, [], ◌∷◌, ◌↔◌, Contains}
+use Rattle.std.specs.Prelude.{ℕ, ◌≡◌, ◌≤◌, Bool, true, false, not, if◌then◌else◌, Option, Some, None, is_some, List, [], ◌∷◌, map, ◌↔◌, Contains}
 use Rattle.std.specs.Option.{option_map}
 use Rattle.bus_word.specs.declared.word.Bus.{Bus}
 use Rattle.bus_word.specs.declared.word.Bus.TheVariants.{A, B}
+use Rattle.bus_word.specs.declared.cell.Cell.{Cell}
 use Rattle.bus_legal.specs.Description.{Description}
 use Rattle.terminal_rules.specs.declared.event.Flag.TheVariants.{Busy as BusyFlag}
 use Rattle.terminal_rules.specs.Open.{Open, Idle}
@@ -12,8 +13,10 @@ use Rattle.terminal_rules.specs.Starts.{heard_now}
 use Rattle.terminal_rules.specs.SinceReset.{off_now}
 use Rattle.terminal_rules.specs.Status.{kept_now}
 use Rattle.terminal_rules.specs.Past.{open_at}
+use Rattle.terminal_bus.specs.declared.bus.TerminalBus.{TerminalBus}
 use Rattle.terminal_bus.specs.declared.event.BusEvent.{BusEvent}
 use Rattle.terminal_bus.specs.Members.{Member, play, powered_up}
+use Rattle.terminal_bus.specs.AtMembers.{BusStandsAt}
 use Rattle.terminal_bus.specs.Lists.{Each}
 use Rattle.terminal_bus.specs.OneSpeaker.{AddressesDiffer}
 use Rattle.terminal_bus.specs.Transfer.{noted_of}
@@ -69,6 +72,13 @@ first_left (m ∷ members) = first_there (left_at m) (first_left members)
 -- what is left behind by what happens on the bus, alone from power-up
 abbrev pub left_alone : List Description → List BusEvent → Option LeftAt
 left_alone Ps xs = first_left (play (powered_up Ps) xs)
+
+-- A bus has terminals so described, each clear, whatever came before.
+pub record IsClearBus {L : Type 0} (is_legal : L → Cell → Bool) (Ps : List Description) (bus : TerminalBus L) : Type 0 where
+  pub members : List Member
+  pub stands : BusStandsAt is_legal members bus
+  pub same : map (λ (m : Member). m.description) members ≡ Ps
+  pub clear : Each IsClear members
 
 -- Just of a terminal that is clear nothing is told, and just a message after which all are clear leaves nothing behind.
 pub record LeftTells : Type 0 where

@@ -1,12 +1,14 @@
 //! What is left behind at terminals that are not clear.
-ghost use Rattle.std.specs.Prelude.{◌≡◌, List, Some, slice_get};
+ghost use Rattle.std.specs.Prelude.{◌≡◌, ◌≤◌, List, Some, slice_get, IfNone};
 ghost use Rattle.bus_legal.specs.Description.{Description};
 ghost use Rattle.terminal_rules.specs.declared.event.Event.{Event};
 ghost use Rattle.terminal_state.specs.Buses.{on_bus};
 ghost use Rattle.bus_terminal.specs.Stands.{StandsAt};
-ghost use Rattle.terminal_bus.specs.Members.{Member, member_at, play, powered_up};
+ghost use Rattle.terminal_bus.specs.Members.{Member, member_at};
 ghost use Rattle.terminal_bus.specs.AtMembers.{BusStandsAt};
-ghost use Rattle.terminal_schedules.specs.Left.{first_bus, what_is_left, left_there, left_at, first_left, left_alone};
+ghost use Rattle.terminal_bus.specs.Lists.{Each};
+ghost use Rattle.terminal_bus.specs.OneSpeaker.{AddressesDiffer};
+ghost use Rattle.terminal_schedules.specs.Left.{first_bus, what_is_left, left_there, left_at, first_left, left_alone, IsClearBus};
 ghost use Rattle.terminal_schedules.specs.inner.Kept.{bus_of_message, left_by};
 
 use bus_legal::Legality;
@@ -134,14 +136,17 @@ fn first_left<L: Legality + Copy>(bus: &TerminalBus<L>) -> Option<LeftAt>
     None
 }
 
-/// What a message leaves behind, alone, on a bus of terminals at power-up, which stays as it is: at the first of them that is not clear after
-/// it. None where each is clear.
-pub fn left_alone<L: Legality + Copy>(bus: &TerminalBus<L>, message: &[BusEvent]) -> Option<LeftAt>
-    ensures { (Ps : List Description) → BusStandsAt L.is_legal (powered_up Ps) bus.now → result ≡ left_alone Ps message.now }
+/// Plays a message to the terminals of a bus, each of which is clear. Tells what it leaves behind, which is what it leaves alone, from
+/// power-up: at the first terminal that is not clear after it. None where each is clear again.
+pub fn play_to_clear<L: Legality + Copy>(
+    bus: &mut TerminalBus<L>,
+    message: &[BusEvent],
+) -> Option<LeftAt>
+    ensures left { (Ps : List Description) → AddressesDiffer Ps → Each (λ P. P.address ≤ 30) Ps → IsClearBus L.is_legal Ps bus.old → result ≡ left_alone Ps message.now }
+    ensures clear { IfNone result ((Ps : List Description) → IsClearBus L.is_legal Ps bus.old → IsClearBus L.is_legal Ps bus.new) }
 {
-    let mut bus = bus.copy();
     for event in message {
         let _ = bus.step(*event);
     }
-    first_left(&bus)
+    first_left(bus)
 }

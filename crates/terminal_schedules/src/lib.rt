@@ -4,4 +4,4 @@
 pub mod laws;
 mod left;
 
-pub use left::{LeftAt, LeftBehind, left_alone, left_behind};
+pub use left::{LeftAt, LeftBehind, left_behind, play_to_clear};

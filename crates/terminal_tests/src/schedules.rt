@@ -4,7 +4,7 @@ use bus_word::{Bus, Kind, Raw};
 use rt1553::load;
 use std::test::Fail;
 use terminal_bus::{BusEvent, TerminalBus};
-use terminal_schedules::{LeftAt, LeftBehind, left_alone, left_behind};
+use terminal_schedules::{LeftAt, LeftBehind, left_behind, play_to_clear};
 
 #[test]
 fn terminal_that_is_clear(rt: HostRuntime) -> Result<(), Fail> {
@@ -36,12 +36,11 @@ fn message_that_shuts_a_transmitter_down(rt: HostRuntime) -> Result<(), Fail> {
             BusEvent::SlotPasses,
         ]
     };
-    assert!(rt; left_alone(&bus, &message(0x3402)).is_none());
+    assert!(rt; play_to_clear(&mut bus, &message(0x3402)).is_none());
     let left = LeftAt {
         address: 6,
         what: LeftBehind::ShutDown(Bus::B),
     };
-    assert!(rt; left_alone(&bus, &message(0x3404)) == Some(left));
-    assert!(rt; left_alone(&bus, &message(0x3402)).is_none());
+    assert!(rt; play_to_clear(&mut bus, &message(0x3404)) == Some(left));
     Ok(())
 }
