@@ -1,7 +1,9 @@
 -- Laws of rows as lines.
-use Rattle.std.proofs.Common.{ℕ, zero, suc, ◌≡◌, ◌∙◌, ◌<◌, List, [], ◌∷◌, ◌++◌, length, map, take, sym, ap, arith, append_assoc, append-nil}
-use Rattle.std.specs.List.{flat_map}
+use Rattle.std.proofs.Common.{ℕ, zero, suc, ◌≡◌, ◌∙◌, ◌<◌, ◌≤◌, ◌-◌, Bool, true, false, List, [], ◌∷◌, ◌++◌, length, map, take, get_or, codes, flat_map, refl, sym, ap, arith, append_assoc, append-nil, length-append}
 use Rattle.std.proofs.lemmas.List.{map-append}
+use Rattle.terminal_rules.specs.Out.{Handing, HandsReceived, HandsSynchronize, HandsSynchronizeWith, HandsSelfTest, HandsBusControl}
+use Rattle.script_lines.specs.Digits.{digits_of, decimal_digits}
+use Rattle.script_lines.specs.Transcript.{word_field, received_by, received_text, hand_text}
 use Rattle.message_rows.specs.declared.field.Field.{Field}
 use Rattle.message_rows.specs.Texts.{field_told, comma_first, comma_joined}
 
@@ -39,3 +41,36 @@ pub taken-next : (fs : List Field) (i : ℕ) (f : Field) (old mid between new : 
 taken-next fs zero f old mid between new some within before comma grown = absurd (omega (arith, some))
 taken-next [] (suc i) f old mid between new some within before comma grown = absurd (omega (arith, within))
 taken-next (g ∷ gs) (suc i) f old mid between new some within before comma grown = field-next g (take i gs) f old mid between new before comma grown
+
+-- ---- the line of what is handed over
+
+last_feed : (xs : List ℕ) (i : ℕ) → i ≡ length xs → get_or (xs ++ 10 ∷ []) i 0 ≡ 10
+last_feed [] i is = ap (λ n. get_or (10 ∷ []) n 0) is
+last_feed (x ∷ xs) zero is = absurd (omega (arith, is))
+last_feed (x ∷ xs) (suc i) is = last_feed xs i (omega (arith, is))
+
+feed_behind : (line xs : List ℕ) → line ≡ xs ++ 10 ∷ [] → get_or line (length line - 1) 0 ≡ 10
+feed_behind line xs is =
+    ap (λ l. get_or l (length l - 1) 0) is ∙ last_feed xs (length (xs ++ 10 ∷ []) - 1) (omega (arith, length-append xs (10 ∷ [])))
+
+-- it ends with a line feed
+pub record IsHandLine (line : List ℕ) : Type 0 where
+  pub least : 6 ≤ length line
+  pub last : get_or line (length line - 1) 0 ≡ 10
+
+received_line : (broadcast : Bool) (subaddress : ℕ) (words : List ℕ) → IsHandLine (received_text broadcast subaddress words)
+received_line true subaddress words = record {
+  least = omega arith;
+  last = feed_behind (received_text true subaddress words) (received_by true ++ (decimal_digits subaddress ++ flat_map word_field words)) (sym (append_assoc (received_by true ++ decimal_digits subaddress) (flat_map word_field words) (10 ∷ [])));
+}
+received_line false subaddress words = record {
+  least = omega arith;
+  last = feed_behind (received_text false subaddress words) (received_by false ++ (decimal_digits subaddress ++ flat_map word_field words)) (sym (append_assoc (received_by false ++ decimal_digits subaddress) (flat_map word_field words) (10 ∷ [])));
+}
+
+pub hand_line : (h : Handing) → IsHandLine (hand_text h)
+hand_line (HandsReceived broadcast subaddress words) = received_line broadcast subaddress words
+hand_line HandsSynchronize = record { least = omega arith; last = refl }
+hand_line (HandsSynchronizeWith word) = record { least = omega arith; last = feed_behind (hand_text (HandsSynchronizeWith word)) (codes "hand sync " ++ digits_of word) refl }
+hand_line HandsSelfTest = record { least = omega arith; last = refl }
+hand_line HandsBusControl = record { least = omega arith; last = refl }

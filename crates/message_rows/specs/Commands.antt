@@ -1,6 +1,6 @@
 -- The commands of a message.
 use Rattle.std.specs.Prelude.{ℕ, Bool, false, ◌||◌, ◌==◌, if◌then◌else◌, Option, Some, None}
-use Rattle.bus_word.specs.Command.{address_of, transmits, subaddress_of, is_mode, is_broadcast, is_addressed_to}
+use Rattle.bus_word.specs.Command.{address_of, transmits, subaddress_of, is_mode, is_broadcast}
 use Rattle.terminal_messages.specs.declared.kept.KeptMessage.{KeptMessage}
 use Rattle.message_rows.specs.declared.commands.MessageCommands.{MessageCommands}
 use Rattle.message_rows.specs.declared.commands.MessageForm.{MessageForm}

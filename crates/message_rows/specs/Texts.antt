@@ -1,12 +1,12 @@
 -- What the fields of a row say.
-use Rattle.std.specs.Prelude.{ℕ, ◌≤◌, Bool, true, false, ◌||◌, ◌/◌, ◌%◌, nat_eq, nat_lt, if◌then◌else◌, Option, Some, None, List, [], ◌∷◌, ◌++◌, length, codes, decimal, ⊤}
+use Rattle.std.specs.Prelude.{ℕ, ◌≤◌, Bool, true, false, ◌||◌, ◌/◌, ◌%◌, nat_eq, nat_lt, if◌then◌else◌, Option, Some, None, List, [], ◌∷◌, ◌++◌, length, take, drop, ◌-◌, codes, decimal, ⊤}
 use Rattle.std.specs.List.{flat_map}
 use Rattle.std.specs.Option.{option_map}
 use Rattle.bus_word.specs.Command.{address_of, subaddress_of, code_of, count_of, is_mode}
-use Rattle.terminal_rules.specs.Out.{Handing, HandsReceived, HandsSynchronize, HandsSynchronizeWith, HandsSelfTest, HandsBusControl}
+use Rattle.terminal_rules.specs.Out.{Handing}
 use Rattle.bus_terminal.specs.Answer.{shown_copy}
-use Rattle.script_lines.specs.Digits.{digits_of, decimal_digits}
-use Rattle.script_lines.specs.Transcript.{bus_letter, word_field}
+use Rattle.script_lines.specs.Digits.{digits_of}
+use Rattle.script_lines.specs.Transcript.{bus_letter, word_field, hand_text}
 use Rattle.terminal_messages.specs.declared.ending.ErrorCause.{ErrorCause}
 use Rattle.terminal_messages.specs.declared.ending.ErrorCause.TheVariants.{WordCount, InvalidWord, CommandWithin, GapWithin, NoStatus}
 use Rattle.terminal_messages.specs.declared.ending.IgnoreCause.{IgnoreCause}
@@ -107,17 +107,9 @@ spaced (word ∷ words) = digits_of word ++ flat_map word_field words
 abbrev pub words_told : List ℕ → ℕ → List ℕ
 words_told words left_out = spaced words ++ (if nat_lt 0 left_out then codes " and " ++ (decimal left_out ++ codes " more") else [])
 
-abbrev pub received_front : Bool → List ℕ
-received_front broadcast = if broadcast then codes "receive broadcast " else codes "receive own "
-
--- what was handed over, as in a transcript
+-- what was handed over: its line in a transcript, without `hand ` before it and the line feed behind it
 abbrev pub handing_told : Handing → List ℕ
-handing_told (HandsReceived broadcast subaddress words) =
-    received_front broadcast ++ (decimal_digits subaddress ++ flat_map word_field words)
-handing_told HandsSynchronize = codes "sync"
-handing_told (HandsSynchronizeWith word) = codes "sync" ++ word_field word
-handing_told HandsSelfTest = codes "self-test"
-handing_told HandsBusControl = codes "bus-control"
+handing_told handing = take (length (hand_text handing) - 6) (drop 5 (hand_text handing))
 
 abbrev pub handed_told : Option Handing → List ℕ
 handed_told None = []

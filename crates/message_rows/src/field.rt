@@ -2,26 +2,26 @@
 ghost use Rattle.std.specs.Prelude.{◌≡◌, ◌≤◌, ◌<◌, ◌+◌, ◌*◌, ◌++◌, length, Some, decimal};
 ghost use Rattle.std.specs.List.{flat_map};
 ghost use Rattle.arrayvec.specs.ArrayString.{array_string_len};
-ghost use Rattle.terminal_rules.specs.Out.{HandsReceived};
 ghost use Rattle.bus_terminal.specs.Answer.{shown_copy};
 ghost use Rattle.script_lines.specs.Transcript.{word_field};
 ghost use Rattle.terminal_messages.specs.Ends.{handed_in};
-ghost use Rattle.message_rows.specs.Texts.{bit_named, received_front, place_shown, spaced, words_told, handing_told, handed_told, bits_told, transmitter_told, with_why, end_name, why, status_told, field_told, IsShortField};
+ghost use Rattle.message_rows.specs.Texts.{bit_named, place_shown, spaced, words_told, handed_told, bits_told, transmitter_told, with_why, end_name, why, status_told, field_told, IsShortField};
 
 use crate::status::{STATUS_BITS, is_bit_set, status_bit};
 use crate::text::{end_name, place_of, why};
 use arrayvec::ArrayString;
-use bus_terminal::CopiedAnswer;
+use bus_terminal::{Answer, CopiedAnswer};
 use bus_word::Command;
 use itoa::Buffer;
-use script_lines::{push_number, push_word};
+use script_lines::{push_word, write_answer};
 use std::alloc::{AllocError, Global};
 use std::fmt;
 use terminal_messages::KeptMessage;
 
-/// The text of a field, and that of a row.
+/// The text of a field.
 type FieldText = ArrayString<512>;
 
+/// The text of a row.
 pub type RowText = ArrayString<8192>;
 
 /// A field of a row. Where there is no text, number, word or command, nothing is told.
@@ -123,54 +123,16 @@ fn push_words<const N: usize>(text: &mut ArrayString<N>, words: &[u16], left_out
     }
 }
 
-/// What stands before what was received.
-fn received_front(broadcast: bool) -> &'static str
-    ensures text { result.now ≡ received_front broadcast }
-    ensures short { length result.now ≤ 18 }
-{
-    if broadcast {
-        "receive broadcast "
-    } else {
-        "receive own "
-    }
-}
-
-/// Adds what was received.
-fn push_received<const N: usize>(
-    text: &mut ArrayString<N>,
-    broadcast: bool,
-    subaddress: u8,
-    words: &[u16],
-)
-    requires room { array_string_len text.old + (20 + 5 * length words.now) ≤ N }
-    ensures bytes { text.new.bytes ≡ text.old.bytes ++ handing_told (HandsReceived broadcast subaddress words.now) }
-    ensures len { array_string_len text.new ≤ array_string_len text.old + (20 + 5 * length words.now) }
-{
-    text.push_str(received_front(broadcast));
-    push_number(text, subaddress);
-    push_behind(text, words);
-}
-
-/// Adds what was handed over, as it stands in a transcript behind `hand `.
+/// Adds what was handed over: its line in a transcript, without `hand ` before it and the line feed behind it.
 fn push_handed<const N: usize>(text: &mut ArrayString<N>, handed: &CopiedAnswer)
     requires { array_string_len text.old + 180 ≤ N }
     ensures bytes { text.new.bytes ≡ text.old.bytes ++ handed_told (handed_in (shown_copy handed.now)) }
     ensures len { array_string_len text.new ≤ array_string_len text.old + 180 }
 {
-    match handed {
-        CopiedAnswer::Received {
-            broadcast,
-            subaddress,
-            words,
-        } => push_received(text, *broadcast, *subaddress, words.as_slice()),
-        CopiedAnswer::Synchronize => text.push_str("sync"),
-        CopiedAnswer::SynchronizeWith(word) => {
-            text.push_str("sync ");
-            push_word(text, *word);
-        }
-        CopiedAnswer::SelfTest => text.push_str("self-test"),
-        CopiedAnswer::BusControl => text.push_str("bus-control"),
-        CopiedAnswer::Silent | CopiedAnswer::Sends(_) => {}
+    if let Answer::Hands(hand) = handed.lent() {
+        let line = write_answer(&Answer::Hands(hand));
+        let line = line.as_str();
+        text.push_str(&line[5..line.len() - 1]);
     }
 }
 
