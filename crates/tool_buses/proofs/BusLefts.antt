@@ -30,7 +30,9 @@ use Rattle.bus_reports.specs.declared.judged.PartLeft.{PartLeft}
 use Rattle.bus_reports.specs.declared.judged.Judgement.{Judgement}
 use Rattle.bus_reports.specs.Outcomes.{told_among, leaves_something}
 use Rattle.script_terminals.proofs.PlayLaws.{none_left}
-use Rattle.terminal_schedules.specs.Left.{left_alone}
+use Rattle.terminal_schedules.specs.declared.left.LeftAt.{LeftAt}
+use Rattle.terminal_schedules.specs.Left.{left_alone, IsClearBus}
+use Rattle.terminal_schedules.proofs.Law.{power_same, power_clear}
 use Rattle.terminal_schedules.proofs.OrderLaw.{every_order_law}
 use Rattle.tool_buses.specs.Powered.{IsBusAt, IsPowered, described_at}
 
@@ -196,6 +198,25 @@ one_added v setup a Ps bus more r same here low ok free added p =
     (sym (no_err r ok) ∙ (free (powered_up Ps) p.stands ∙ ap (λ (w : Parts). not_added (powered_up Ps) w.address) same))
     (subst (λ n. n ≤ 30) (sym here) low)
     (subst (λ P. IsBusAt (powered_up Ps ++ member_of P ∷ []) more) (set_up_normal v setup same) stands))
+
+-- a copy of it has clear terminals
+abbrev pub IsClearOn : List Description → TerminalBus Parts → Type 0
+IsClearOn Ps bus = IsClearBus (λ (normal : Parts). tables_say normal.tables) Ps bus
+
+pub powered_clear : (Ps : List Description) (bus copy : TerminalBus Parts) → IsPowered Ps bus → ((members : List Member) → IsBusAt members bus → IsBusAt members copy) → IsClearOn Ps copy
+powered_clear Ps bus copy p stands = record { members = powered_up Ps; stands = stands (powered_up Ps) p.stands; same = power_same Ps; clear = power_clear true Ps }
+
+pub clear_on : (Ps : List Description) (left : Option LeftAt) (bus more : TerminalBus Parts) → is_some left ≡ false → IfNone left ((Qs : List Description) → IsClearOn Qs bus → IsClearOn Qs more) → IsClearOn Ps bus → IsClearOn Ps more
+clear_on Ps None bus more e f c = f Ps c
+clear_on Ps (Some x) bus more e f c = cc e
+
+-- what one part more leaves behind
+pub left_more : (Ps : List Description) (parts : List ScriptPart) (i : ℕ) (part : ScriptPart) (lefts more : List PartLeft) (left : Option LeftAt) → i < length parts → part ≡ get_or parts i part → left ≡ left_alone Ps part.events.items →
+    more ≡ lefts ++ (let it : PartLeft = record { line = part.line; left = left } in it) ∷ [] → lefts ≡ map (part_left Ps) (take i parts) → more ≡ map (part_left Ps) (take (i + 1) parts)
+left_more Ps parts i part lefts more left within at is grown before =
+    grown
+    ∙ ((λ j. before j ++ (let it : PartLeft = record { line = part.line; left = is j } in it) ∷ [])
+    ∙ (sym (map-append (part_left Ps) (take i parts) (part ∷ [])) ∙ ap (map (part_left Ps)) (sym (take_more parts i part within ∙ ap (λ y. take i parts ++ y ∷ []) (sym at)))))
 
 -- one event more, behind the first
 pub rest_more : {X : Type 0} (xs more : List X) (x y d : X) (i : ℕ) → xs ≡ x ∷ more → i < length more → y ≡ get_or more i d → take (i + 1 + 1) xs ≡ take (i + 1) xs ++ y ∷ []

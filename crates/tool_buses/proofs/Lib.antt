@@ -1,1 +1,2 @@
 pub mod BusLefts
+pub mod SharedLaws

@@ -3,3 +3,4 @@ pub mod LegalCounts
 pub mod Loading
 pub mod Powered
 pub mod Cut
+pub mod inner

@@ -38,8 +38,8 @@ fn lines_of(
     Ok(lines)
 }
 
-/// Plays the script of a file, which was read, to terminals at power-up, and writes the rows of the messages of each that are for it, as they end. Of a
-/// script that is refused, those that ended before. The status is 0.
+/// Plays the script of a file, which was read, to terminals at power-up, and writes the rows of the messages of each that are for it, as
+/// they end. Of a script that is refused, those that ended before. The status is 0.
 pub fn list_on_bus<R: AllocGlobal + Eprint, W: Write>(
     rt: &R,
     name: &str,

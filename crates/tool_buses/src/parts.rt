@@ -2,9 +2,8 @@
 ghost use Rattle.std.specs.Prelude.{◌≡◌, List, [], ◌∷◌, IfOk, map, option_map};
 ghost use Rattle.bus_legal.specs.Description.{Description};
 ghost use Rattle.refused_lines.specs.Sources.{line_in_file};
-ghost use Rattle.terminal_bus.specs.Members.{powered_up};
 ghost use Rattle.tool_buses.specs.Cut.{IsCut, part_left};
-ghost use Rattle.tool_buses.specs.Powered.{IsBusAt};
+ghost use Rattle.tool_buses.specs.Powered.{IsPowered};
 
 use crate::reading::SaidEvent;
 use bus_reports::PartLeft;
@@ -12,7 +11,7 @@ use refused_lines::line_in_file;
 use rt1553::Normal;
 use std::alloc::{AllocError, Global};
 use terminal_bus::{BusEvent, TerminalBus};
-use terminal_schedules::left_alone;
+use terminal_schedules::play_to_clear;
 
 /// The events of a script that stand for one line of its file, one after the other.
 #[derive(Drop)]
@@ -68,19 +67,25 @@ pub fn parts_of(
     Ok(parts)
 }
 
-/// What each part leaves behind, alone, on a bus of terminals at power-up. The only error is out of memory.
+/// What each part leaves behind, alone, on a bus of terminals at power-up. All are played to one bus, and behind one that leaves something
+/// to another at power-up. The only error is out of memory.
 pub fn lefts_of(
     alloc: Global,
     bus: &TerminalBus<Normal>,
     parts: &[ScriptPart],
 ) -> Result<Vec<PartLeft>, AllocError>
-    ensures { IfOk result (λ lefts. (Ps : List Description) → IsBusAt (powered_up Ps) bus.now → lefts.items ≡ map (part_left Ps) parts.now) }
+    ensures { IfOk result (λ lefts. (Ps : List Description) → IsPowered Ps bus.now → lefts.items ≡ map (part_left Ps) parts.now) }
 {
     let mut lefts = Vec::new(alloc);
+    let mut clear = bus.copy();
     for part in parts {
+        let left = play_to_clear(&mut clear, part.events.as_slice());
+        if left.is_some() {
+            clear = bus.copy();
+        }
         lefts.push(PartLeft {
             line: part.line,
-            left: left_alone(bus, part.events.as_slice()),
+            left,
         })?;
     }
     Ok(lefts)

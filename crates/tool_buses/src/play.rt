@@ -1,12 +1,11 @@
 //! The command `bus`: a script that is played to the terminals of several profiles, on one bus.
 ghost use Rattle.std.specs.Prelude.{◌≡◌, ◌≤◌, IfOk};
-ghost use Rattle.tool_buses.specs.Powered.{IsPowered, described_below};
 ghost use Rattle.tool_buses.specs.Troubles.{IsBusStatus, IsCheckStatus};
 
 use crate::check::{CheckedBus, check_on_bus};
 use crate::list::list_on_bus;
 use crate::names::load_tables;
-use crate::powered::power_up;
+use crate::powered::bus_of;
 use crate::reading::read_script;
 use crate::watch::{SpokenTo, WatchedBus};
 use bus_reports::CheckedProfile;
@@ -79,43 +78,6 @@ fn load_for<R: Files + AllocGlobal>(
         addresses.push(normal.address())?;
     }
     load_messages(rt, asked.script, &ScriptFor::Bus(addresses))
-}
-
-/// What is printed of profiles that have the same address, without a line feed.
-fn same_address_text<R: AllocGlobal>(
-    rt: &R,
-    names: &[&str],
-    normals: &[Normal],
-    address: u8,
-) -> Result<String, ToolFault> {
-    let mut told = String::new(rt.alloc());
-    for (name, normal) in names.iter().zip(normals) {
-        if normal.address() == address {
-            if !told.is_empty() {
-                told.push_str(" and ")?;
-            }
-            told.push_str(shown(rt, name)?.as_str())?;
-        }
-    }
-    write!(
-        told,
-        ": the same address, {address:02}; on a bus each terminal has its own"
-    )?;
-    Ok(told)
-}
-
-/// A bus of the terminals of profiles at power-up, in the order of their addresses.
-fn bus_of<R: AllocGlobal>(
-    rt: &R,
-    names: &[&str],
-    normals: &[Normal],
-) -> Result<TerminalBus<Normal>, ToolFault>
-    ensures { IfOk result (IsPowered (described_below 31 normals.now)) }
-{
-    match power_up(normals) {
-        Ok(bus) => Ok(bus),
-        Err(address) => { Err(ToolFault::Refused(same_address_text(rt, names, normals, address)?)) }
-    }
 }
 
 /// The place of the terminal of this address.
