@@ -1,4 +1,5 @@
 pub mod Outcomes
 pub mod Load
 pub mod Rates
+pub mod Lefts
 pub mod inner

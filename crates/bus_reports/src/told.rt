@@ -1,6 +1,7 @@
 //! What is told of the messages of a file, as text.
-ghost use Rattle.std.specs.Prelude.{IfOk, OnOk};
+ghost use Rattle.std.specs.Prelude.{◌≡◌, IfOk, OnOk};
 ghost use Rattle.std.specs.String.{string_bytes};
+ghost use Rattle.bus_reports.specs.Lefts.{letter_of};
 ghost use Rattle.bus_reports.specs.Outcomes.{EndsWith, in_every_order, last_words, told_among, well_words};
 
 use crate::judged::{JudgedMessage, Judgement, told_in};
@@ -11,7 +12,9 @@ use message_names::quoted;
 use std::alloc::{AllocError, Global};
 
 /// The letter of a bus.
-pub(crate) fn letter_of(bus: Bus) -> &'static str {
+pub(crate) fn letter_of(bus: Bus) -> &'static str
+    ensures { result.now ≡ letter_of bus }
+{
     match bus {
         Bus::A => "A",
         Bus::B => "B",
