@@ -36,9 +36,9 @@ abbrev pub left_told : LeftAt → List ℕ
 left_told left = codes "leaves terminal " ++ (decimal (left.address / 10) ++ (decimal (left.address % 10) ++ (codes " " ++ left_words left.what)))
 
 -- the line that tells it of a line of the file of this name
-abbrev pub told_behind : List ℕ → ℕ → Option LeftAt → List ℕ
-told_behind file line None = []
-told_behind file line (Some left) = file ++ (codes ":" ++ (decimal line ++ (codes ": " ++ (left_told left ++ codes "\n"))))
+abbrev pub line_of_left : List ℕ → ℕ → Option LeftAt → List ℕ
+line_of_left file line None = []
+line_of_left file line (Some left) = file ++ (codes ":" ++ (decimal line ++ (codes ": " ++ (left_told left ++ codes "\n"))))
 
 abbrev pub left_line : List ℕ → PartLeft → List ℕ
-left_line file part = told_behind file part.line part.left
+left_line file part = line_of_left file part.line part.left
