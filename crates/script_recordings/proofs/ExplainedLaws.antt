@@ -23,11 +23,11 @@ use Rattle.rt1553_verify.specs.Verify.{ToldAnswer, told_answer}
 use Rattle.script_recordings.specs.declared.explaining.UnexplainedLine.{UnexplainedLine}
 use Rattle.script_recordings.specs.Seen.{IsToldAs, StatesRecording}
 use Rattle.script_recordings.specs.Explained.{told_at, with_other, told_first, IsFirstUnexplainedBy, IsJudgedFirst, PlaysCertain, IsWitness}
-use Rattle.script_recordings.specs.inner.Reads.{TellsUnexplained}
+use Rattle.script_recordings.specs.inner.Reads.{AreMarkedAs, TellsUnexplained}
 use Rattle.script_recordings.specs.inner.Plays.{PlaysSeen}
 use Rattle.script_recordings.specs.inner.Settled.{IsSettled}
 use Rattle.script_recordings.proofs.SettleLaws.{left_open, all_seen}
-use Rattle.script_recordings.proofs.ReadLaws.{AreMarkedAs, are_told, Split, split}
+use Rattle.script_recordings.proofs.ReadLaws.{are_told, Split, split}
 
 pub sightings_alike : (P Q : Description) → AnswersAlike P Q → (h es : List Event) → sightings_from P h es ≡ sightings_from Q h es
 sightings_alike P Q alike h [] = refl

@@ -4,4 +4,5 @@ pub mod ExplainedLaws
 pub mod WordLaws
 pub mod SinceLaws
 pub mod TallyLaws
+pub mod StretchLaws
 pub mod PartLaws

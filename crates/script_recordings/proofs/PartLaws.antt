@@ -1,7 +1,6 @@
 -- Laws of a recording in parts, one after the other.
 use Rattle.std.proofs.Common.{◌≡◌, ◌∙◌, inl, ℕ, suc, ◌+◌, ◌<◌, ◌≤◌, arith, Bool, true, false, not, cond, ◌&&◌, ◌==◌, Option, Some, None, IfSome, is_some, Result, Ok, Err, List, [], ◌∷◌, ◌++◌, length, filter, refl, sym, ap, subst, append_assoc, append-nil, length-append}
 use Rattle.std.proofs.lemmas.Bool.Decides.{nat_tests}
-use Rattle.std.proofs.lemmas.List.Elements.{filter-append}
 use Rattle.std.proofs.lemmas.List.Splits.{slice_split_none, slice_split_at}
 use Rattle.bus_legal.specs.Description.{Description}
 use Rattle.terminal_recordings.specs.MaybeGaps.{MaybeSighting}
@@ -15,15 +14,14 @@ use Rattle.rt1553_verify.proofs.StatedLaws.{then-twice}
 use Rattle.script_recordings.specs.declared.explaining.PartTold.{PartTold}
 use Rattle.script_recordings.specs.declared.explaining.UnexplainedLine.{UnexplainedLine}
 use Rattle.script_recordings.specs.declared.reading.RecordingFault.{RecordingFault}
-use Rattle.script_recordings.specs.declared.tally.Tally.{Tally}
 use Rattle.script_recordings.specs.declared.reading.RecordingFault.TheVariants.{Unseen, Masked, NoWord, TooManyWays, Script}
 use Rattle.script_recordings.specs.Parts.{is_silence, split_parts, heard}
 use Rattle.script_recordings.specs.Seen.{AreToldAs, AreNoted, AreNoRecording, StateWords, recorded_warning, shows_word}
-use Rattle.script_recordings.specs.Explained.{first_some, told_first, IsJudgedLater, AreJudgedLater, IsJudgedFrom, IsJudgedSince}
-use Rattle.script_recordings.specs.inner.Reads.{Left, ReadsPart, ReadsThen, EndsPart}
-use Rattle.script_recordings.specs.inner.Tallies.{IsTally}
-use Rattle.script_recordings.specs.inner.PartsTold.{joined_warning, TellsNone, TellsThen, IsToldFirst, IsToldLater, ArePartsTold, AreOthersTold}
-use Rattle.script_recordings.proofs.ReadLaws.{AreMarkedAs, PartSoFar, part_ended, are_told, all_heard, are_noted, noted_more, none_end}
+use Rattle.script_recordings.specs.Explained.{first_some, told_first, IsJudgedBehind, AreJudgedLater, IsJudgedFrom, IsJudgedSince}
+use Rattle.script_recordings.specs.inner.Reads.{Left, AreMarkedAs, ReadsPart, ReadsThen, EndsPart}
+use Rattle.script_recordings.specs.inner.PartsTold.{joined_warning, TellsJust, TellsThen, IsToldFirst, IsToldLater, ArePartsTold, AreOthersTold}
+use Rattle.script_recordings.proofs.ReadLaws.{PartSoFar, part_ended, are_told, are_noted, noted_more, none_end}
+use Rattle.script_recordings.proofs.StretchLaws.{shown_more, told_more, words_more}
 
 abbrev Said : Type 0
 Said = Result (List StatedEvent) StatedFault
@@ -46,9 +44,6 @@ noted_part ss xs s are silent = noted_more ss (s ∷ []) (are_noted ss xs are) (
 some_told : (one other : Option UnexplainedLine) → told_first (first_some one other) ≡ first_some (told_first one) (told_first other)
 some_told None other = refl
 some_told (Some line) other = refl
-
-shown_more : (xs ys : List MaybeSighting) → length (filter shows_word (xs ++ ys)) ≡ length (filter shows_word xs) + length (filter shows_word ys)
-shown_more xs ys = ap length (filter-append shows_word xs ys) ∙ length-append (filter shows_word xs) (filter shows_word ys)
 
 none_of_both : (n m : ℕ) → (n + m == 0) ≡ ((n == 0) && (m == 0))
 none_of_both n m = grind (arith, nat_tests)
@@ -80,36 +75,17 @@ warned_more (x ∷ xs) (y ∷ ys) =
 
 -- ---- the words that are stated
 
-told_more : (ss ts : List StatedEvent) (xs ys : List MaybeSighting) → AreToldAs ss xs → AreToldAs ts ys → AreToldAs (ss ++ ts) (xs ++ ys)
-told_more [] ts [] ys are more = more
-told_more [] ts (x ∷ xs) ys are more = absurd are
-told_more (s ∷ ss) ts [] ys are more = absurd are
-told_more (s ∷ ss) ts (x ∷ xs) ys are more = (are.0, told_more ss ts xs ys are.1 more)
-
-words_more : (ss ts : List StatedEvent) (n m : ℕ) → StateWords ss n → StateWords ts m → StateWords (ss ++ ts) (n + m)
-words_more ss ts n m (xs, are, k) (ys, more, l) = (
-  xs ++ ys,
-  subst (λ zs. AreToldAs zs (xs ++ ys)) (sym (filter-append (λ s. not (is_silence s)) ss ts)) (told_more (heard ss) (heard ts) xs ys are more),
-  (λ j. k j + l j) ∙ sym (shown_more xs ys),
-)
-
 -- those of a part, and of the slot that ends it
 words_ended : (ss : List StatedEvent) (s : StatedEvent) (n : ℕ) → is_silence s ≡ true → StateWords ss n → StateWords (ss ++ s ∷ []) n
 words_ended ss s n silent words =
     subst (StateWords (ss ++ s ∷ [])) (omega arith) (words_more ss (s ∷ []) n 0 words ([], subst (λ b. AreToldAs (cond (not b) (s ∷ []) []) []) (sym silent) tt, refl))
-
-pub words_told : (ss : List StatedEvent) (ms : List Marked) (t : Tally) (n : ℕ) → AreMarkedAs ss ms → IsTally ms t → n ≡ t.answers → StateWords ss n
-words_told ss ms t n are tally is = (maybe_in ms, subst (λ zs. AreToldAs zs (maybe_in ms)) (sym (all_heard ss (maybe_in ms) told)) told, is ∙ tally.answers)
-  where
-    told : AreToldAs ss (maybe_in ms)
-    told = are_told ss ms are
 
 -- one part before others
 told_before : (D : Description) (events : List StatedEvent) (parts : List (List StatedEvent)) (t others all : PartTold) → IsToldLater D events t → ArePartsTold D parts others → TellsThen t others all
     → ArePartsTold D (events ∷ parts) all
 told_before D events parts t others all (seen, i, w, words) (more, are, v) then = (
   seen ++ more,
-  (t.after, others.after, told_first t.first, told_first others.first, seen, more, i, are, then.0, ap told_first then.1 ∙ some_told t.first others.first, refl),
+  (t.after, others.after, told_first t.first, told_first others.first, t.stretches, others.stretches, seen, more, i, are, then.0, ap told_first then.1 ∙ some_told t.first others.first, then.4, refl),
   then.2 ∙ (λ j. joined_warning (w j) (v j)) ∙ sym (warned_more seen more),
 )
 
@@ -122,22 +98,39 @@ first_alone None = refl
 first_alone (Some x) = refl
 
 -- and one behind others
-judged_behind : (D : Description) (parts : List (List StatedEvent)) (events : List StatedEvent) (after line : Option ℕ) (told one : Option ToldAnswer) (judged seen : List MaybeSighting)
-    → AreJudgedLater D parts after told judged → IsJudgedLater D events line one seen
-    → AreJudgedLater D (parts ++ events ∷ []) (first_some after line) (first_some told one) (judged ++ seen)
-judged_behind D [] events after line told one judged seen (a, t, j) i =
-    (line, None, one, None, seen, [], i, (refl, refl, refl), ap (λ q. first_some q line) a ∙ first_alone line, ap (λ q. first_some q one) t ∙ first_alone one, ap (λ l. l ++ seen) j ∙ sym (append-nil seen))
-judged_behind D (part ∷ parts) events after line told one judged seen (l, ls, o, os, s, more, p, are, a, t, j) i = (
+judged_behind : (D : Description) (parts : List (List StatedEvent)) (events : List StatedEvent) (after line : Option ℕ) (told one : Option ToldAnswer) (n m : ℕ) (judged seen : List MaybeSighting)
+    → AreJudgedLater D parts after told n judged → IsJudgedBehind D m events line one seen
+    → AreJudgedLater D (parts ++ events ∷ []) (first_some after line) (first_some told one) (n + m) (judged ++ seen)
+judged_behind D [] events after line told one n m judged seen (a, t, none, j) i = (
+  line,
+  None,
+  one,
+  None,
+  m,
+  0,
+  seen,
+  [],
+  i,
+  (refl, refl, refl, refl),
+  ap (λ q. first_some q line) a ∙ first_alone line,
+  ap (λ q. first_some q one) t ∙ first_alone one,
+  omega (arith, none),
+  ap (λ l. l ++ seen) j ∙ sym (append-nil seen),
+)
+judged_behind D (part ∷ parts) events after line told one n m judged seen (l, ls, o, os, k, ks, s, more, p, are, a, t, both, j) i = (
   l,
   first_some ls line,
   o,
   first_some os one,
+  k,
+  ks + m,
   s,
   more ++ seen,
   p,
-  judged_behind D parts events ls line os one more seen are i,
+  judged_behind D parts events ls line os one ks m more seen are i,
   ap (λ q. first_some q line) a ∙ first_twice l ls line,
   ap (λ q. first_some q one) t ∙ first_twice o os one,
+  omega (arith, both),
   ap (λ q. q ++ seen) j ∙ append_assoc s more seen,
 )
 
@@ -145,14 +138,15 @@ told_behind : (D : Description) (parts : List (List StatedEvent)) (events : List
     → ArePartsTold D (parts ++ events ∷ []) all
 told_behind D parts events t part all (judged, are, w) (seen, i, v, words) then = (
   judged ++ seen,
-  subst (λ q. AreJudgedLater D (parts ++ events ∷ []) q (told_first all.first) (judged ++ seen)) (sym then.0)
-      (subst (λ q. AreJudgedLater D (parts ++ events ∷ []) (first_some t.after part.after) q (judged ++ seen)) (sym (ap told_first then.1 ∙ some_told t.first part.first))
-      (judged_behind D parts events t.after part.after (told_first t.first) (told_first part.first) judged seen are i)),
+  subst (λ q. AreJudgedLater D (parts ++ events ∷ []) q (told_first all.first) all.stretches (judged ++ seen)) (sym then.0)
+      (subst (λ q. AreJudgedLater D (parts ++ events ∷ []) (first_some t.after part.after) q all.stretches (judged ++ seen)) (sym (ap told_first then.1 ∙ some_told t.first part.first))
+      (subst (λ q. AreJudgedLater D (parts ++ events ∷ []) (first_some t.after part.after) (first_some (told_first t.first) (told_first part.first)) q (judged ++ seen)) (sym then.4)
+      (judged_behind D parts events t.after part.after (told_first t.first) (told_first part.first) t.stretches part.stretches judged seen are i))),
   then.2 ∙ (λ j. joined_warning (w j) (v j)) ∙ sym (warned_more judged seen),
 )
 
-told_nothing : (D : Description) (t : PartTold) → TellsNone t → ArePartsTold D [] t
-told_nothing D t (a, f, w, none) = ([], (a, ap told_first f, refl), w)
+told_nothing : (D : Description) (t : PartTold) → TellsJust 0 0 t → ArePartsTold D [] t
+told_nothing D t (a, f, w, none, no_stretch) = ([], (a, ap told_first f, no_stretch, refl), w)
 
 -- what was read of a part, and what holds of it
 pub reads_then : (all left new : Left) (silence : Option ℕ) (ms : List Marked) {Holds : List StatedEvent → Type 0} → PartSoFar all left ms → EndsPart left new silence
@@ -161,6 +155,23 @@ reads_then None left new silence ms read end holds = tt
 reads_then (Some said) left new silence ms read end holds =
     let p = part_ended said left new silence ms read end in
     (p.0, p.1, (maybe_in ms, are_told p.0 ms p.2), holds p.0 p.2)
+
+-- the same of sightings and of what is read behind them
+pub reads_behind : (all left new : Left) (silence : Option ℕ) (ms : List Marked) (Later Holds : List StatedEvent → Type 0) → PartSoFar all left ms → ReadsThen left new silence Later
+    → ((front later : List StatedEvent) → AreMarkedAs front ms → Later later → Holds (front ++ later)) → ReadsThen all new silence Holds
+reads_behind None left new silence ms Later Holds read reads holds = tt
+reads_behind (Some said) left new silence ms Later Holds (front, later, is, whole, are) reads holds =
+    by silence (subst (λ (l : Left). ReadsThen l new silence Later) is reads)
+  where
+    by : (silence : Option ℕ) → ReadsThen (Some later) new silence Later → ReadsThen (Some said) new silence Holds
+    by None (events, all, (xs, are_events), i) =
+        (front ++ events, whole ∙ ap (then_events front) all, (maybe_in ms ++ xs, told_more front events (maybe_in ms) xs (are_told front ms are) are_events), holds front events are i)
+    by (Some line) (events, (s, rest, is_left, all, silent, place), (xs, are_events), i) = (
+      front ++ events,
+      (s, rest, is_left, whole ∙ ap (then_events front) all ∙ then-twice front (events ++ s ∷ []) rest ∙ ap (λ l. then_events l rest) (sym (append_assoc front events (s ∷ []))), silent, place),
+      (maybe_in ms ++ xs, told_more front events (maybe_in ms) xs (are_told front ms are) are_events),
+      holds front events are i,
+    )
 
 -- ---- the parts behind one that ended
 
@@ -176,7 +187,7 @@ none_before : (said : Said) → said ≡ then_events [] said
 none_before (Ok ss) = refl
 none_before (Err fault) = refl
 
-pub others_none : (D : Description) (left : Left) (silence : Option ℕ) (t : PartTold) → TellsNone t → OthersSoFar D left silence left silence t 0
+pub others_none : (D : Description) (left : Left) (silence : Option ℕ) (t : PartTold) → TellsJust 0 0 t → OthersSoFar D left silence left silence t 0
 others_none D left None t none = (refl, told_nothing D t none, refl, none.3)
 others_none D None (Some line) t none = tt
 others_none D (Some said) (Some line) t none = ([], said, [], refl, none_before said, tt, λ rest. refl, told_nothing D t none, refl, ([], tt, none.3))
@@ -231,6 +242,11 @@ behind front said later (Masked n) noted whole (before, s, rest, all, are, heard
     (front ++ before, s, rest, whole ∙ ap (then_events front) all ∙ ap Ok (sym (append_assoc front before (s ∷ rest))), noted_more front before noted are, heard, bad)
 behind front said later (NoWord n) noted whole (before, s, rest, all, are, heard, bad) =
     (front ++ before, s, rest, whole ∙ ap (then_events front) all ∙ ap Ok (sym (append_assoc front before (s ∷ rest))), noted_more front before noted are, heard, bad)
+
+pub part_refused : (all left : Left) (ms : List Marked) (fault : RecordingFault) → PartSoFar all left ms → IfSome left (λ said. AreNoRecording said fault) → IfSome all (λ said. AreNoRecording said fault)
+part_refused None left ms fault read bad = tt
+part_refused (Some said) left ms fault (front, later, is, all, are) bad =
+    behind front said later fault (are_noted front (maybe_in ms) (are_told front ms are)) all (subst (λ (l : Left). IfSome l (λ said. AreNoRecording said fault)) is bad)
 
 pub others_refused : (D : Description) (all : Left) (begun : Option ℕ) (left : Left) (silence : Option ℕ) (t : PartTold) (n : ℕ) (fault : RecordingFault) → is_some silence ≡ true
     → OthersSoFar D all begun left silence t n → IfSome left (λ said. AreNoRecording said fault) → IfSome all (λ said. AreNoRecording said fault)
@@ -294,28 +310,29 @@ whole_of D said new (Some line) events xs others n k (s, later, is, all, silent,
 
 pub judged_since : (D : Description) (input : Option (List ℕ)) (all new : Left) (silence : Option ℕ) (first others told : PartTold) (n : ℕ) → IfSome input (λ script. all ≡ Some (stated_through script))
     → ReadsThen all new silence (λ events. IsToldLater D events first) → AreOthersTold D new silence others n → TellsThen first others told
-    → IfSome input (λ script. IsJudgedSince D script told.after (told_first told.first) told.warning told.answers n)
+    → IfSome input (λ script. IsJudgedSince D script told.after (told_first told.first) told.warning told.answers n told.stretches)
 judged_since D None all new silence first others told n is reads rest then = tt
 judged_since D (Some script) all new silence first others told n is reads rest then =
     by (subst (λ (l : Left). ReadsThen l new silence (λ events. IsToldLater D events first)) is reads)
   where
-    by : ReadsThen (Some (stated_through script)) new silence (λ events. IsToldLater D events first) → IsJudgedSince D script told.after (told_first told.first) told.warning told.answers n
+    by : ReadsThen (Some (stated_through script)) new silence (λ events. IsToldLater D events first) → IsJudgedSince D script told.after (told_first told.first) told.warning told.answers n told.stretches
     by (events, part, (xs, are), i) =
         let w = whole_of D (stated_through script) new silence events xs others n first.answers part are rest i.3 in
         let t : ArePartsTold D (split_parts w.whole) told = subst (λ l. ArePartsTold D l told) (sym w.split) (told_before D events w.parts first others told i w.told then) in
         record { events = w.whole; says = w.says; judged = t.0; are_judged = t.1; warned = t.2; stated = subst (StateWords w.whole) (sym then.3) w.words; counted = ap length w.split ∙ ap suc w.many }
 
 pub judged_from : (P D : Description) (input : Option (List ℕ)) (all new : Left) (silence : Option ℕ) (first others told : PartTold) (n : ℕ) → IfSome input (λ script. all ≡ Some (stated_through script))
-    → (G : Description → Type 0) → G P → ReadsThen all new silence (λ events. (P : Description) → G P → IsToldFirst P events first) → AreOthersTold D new silence others n → TellsThen first others told
-    → IfSome input (λ script. IsJudgedFrom P D script (told_first told.first) told.warning told.answers n)
+    → (G : Description → Type 0) → G P → ReadsThen all new silence (λ events. (P : Description) → G P → IsToldFirst P D events first) → AreOthersTold D new silence others n → TellsThen first others told
+    → IfSome input (λ script. IsJudgedFrom P D script (told_first told.first) told.warning told.answers n told.stretches)
 judged_from P D None all new silence first others told n is G g reads rest then = tt
 judged_from P D (Some script) all new silence first others told n is G g reads rest then =
-    by (subst (λ (l : Left). ReadsThen l new silence (λ events. (P : Description) → G P → IsToldFirst P events first)) is reads)
+    by (subst (λ (l : Left). ReadsThen l new silence (λ events. (P : Description) → G P → IsToldFirst P D events first)) is reads)
   where
-    by : ReadsThen (Some (stated_through script)) new silence (λ events. (P : Description) → G P → IsToldFirst P events first) → IsJudgedFrom P D script (told_first told.first) told.warning told.answers n
+    by : ReadsThen (Some (stated_through script)) new silence (λ events. (P : Description) → G P → IsToldFirst P D events first)
+        → IsJudgedFrom P D script (told_first told.first) told.warning told.answers n told.stretches
     by (events, part, (xs, are), i) =
-        let f : IsToldFirst P events first = i P g in
-        let w = whole_of D (stated_through script) new silence events xs others n first.answers part are rest f.4 in
+        let f : IsToldFirst P D events first = i P g in
+        let w = whole_of D (stated_through script) new silence events xs others n first.answers part are rest f.3 in
         record {
           events = w.whole;
           says = w.says;
@@ -324,15 +341,17 @@ judged_from P D (Some script) all new silence first others told n is G g reads r
           split = w.split;
           first = told_first first.first;
           recording = f.0;
+          in_first = first.stretches;
           judged_first = f.1;
           after = others.after;
           later = told_first others.first;
+          in_others = others.stretches;
           judged = w.told.0;
           judged_later = w.told.1;
           is = ap told_first then.1 ∙ some_told first.first others.first;
-          warned = then.2 ∙ (λ j. joined_warning (f.3 j) (w.told.2 j)) ∙ sym (warned_more f.0 w.told.0);
+          warned = then.2 ∙ (λ j. joined_warning (f.2 j) (w.told.2 j)) ∙ sym (warned_more f.0 w.told.0);
           stated = subst (StateWords w.whole) (sym then.3) w.words;
-          counted = sym w.many;
+          counted = (sym w.many, then.4);
         }
 
 -- a part that ends before the script takes a turn

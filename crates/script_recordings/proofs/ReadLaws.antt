@@ -24,17 +24,12 @@ use Rattle.terminal_rules.specs.Reply.{is_slot}
 use Rattle.script_recordings.specs.Parts.{is_silence, heard}
 use Rattle.script_recordings.specs.Seen.{IsSeenAs, IsToldAs, StatesSent, AreToldAs, IsUnseenAs, AreRecording, StatesRecording, AreNoRecording, StatesNoRecording, AreNoted}
 use Rattle.script_recordings.specs.Messages.{InMessage, AreInMessages}
-use Rattle.script_recordings.specs.inner.Reads.{Left, IsMarkedAs, SaysNothing, RefusesRest, ReadsPart, EndsPart, NextSeen, watch_fault_of}
+use Rattle.script_recordings.specs.inner.Reads.{Left, AreMarkedAs, IsMarkedAs, SaysNothing, RefusesRest, ReadsPart, EndsPart, NextSeen, watch_fault_of}
 
 abbrev Said : Type 0
 Said = Result (List StatedEvent) StatedFault
 
 -- ---- events and their sightings
-
-abbrev pub AreMarkedAs : List StatedEvent → List Marked → Type 0
-AreMarkedAs [] [] = Unit {0}
-AreMarkedAs (s ∷ ss) (m ∷ ms) = IsMarkedAs s m × AreMarkedAs ss ms
-AreMarkedAs _ _ = ⊥
 
 marked_more : (ss : List StatedEvent) (s : StatedEvent) (ms : List Marked) (m : Marked) → AreMarkedAs ss ms → IsMarkedAs s m → AreMarkedAs (ss ++ s ∷ []) (ms ++ m ∷ [])
 marked_more [] s [] m are is = (is, tt)
@@ -291,21 +286,16 @@ of_script (Some script) left F is f = subst (λ (l : Left). IfSome l F) is f
 
 -- ---- too many ways
 
--- a fault of a watch
-pub watch_refused : (all left : Left) (ms : List Marked) (fault : WatchFault) → PartSoFar all left ms → (fault ≡ watch.TooManyWays → HasManyWays (maybe_in ms))
-    → IfSome all (λ said. AreNoRecording said (watch_fault_of fault))
-watch_refused None left ms fault read has = tt
-watch_refused (Some said) left ms watch.Memory read has = λ memory read. absurd (memory refl)
-watch_refused (Some said) left ms watch.TooManyWays (front, later, is, all, are) has =
-    let told = are_told front ms are in
-    ([], front, later, maybe_in ms, all, subst (λ l. AreToldAs l (maybe_in ms)) (sym (all_heard front (maybe_in ms) told)) told, has refl)
-
--- so is that of one by which a reading is sought
+-- a fault of a watch by which a reading is sought
 pub settle_refused : (input : Option (List ℕ)) (ms : List Marked) (fault : WatchFault) → IfSome input (λ script. StatesRecording script (maybe_in ms)) → (fault ≡ watch.TooManyWays → HasManyWays (maybe_in ms))
     → IfSome input (λ script. StatesNoRecording script (watch_fault_of fault))
 settle_refused None ms fault states has = tt
 settle_refused (Some script) ms watch.Memory states has = λ memory read. absurd (memory refl)
 settle_refused (Some script) ms watch.TooManyWays (ss, said, are) has = ([], ss, Ok [], maybe_in ms, said ∙ ap Ok (sym (append-nil ss)), are, has refl)
+
+pub memory_left : (left : Left) → IfSome left (λ said. AreNoRecording said (Script Memory))
+memory_left None = tt
+memory_left (Some said) = λ memory read. absurd (memory refl)
 
 pub memory_refused : (input : Option (List ℕ)) → IfSome input (λ script. StatesNoRecording script (Script Memory))
 memory_refused None = tt

@@ -34,12 +34,12 @@ use Rattle.script_recordings.specs.declared.explaining.UnexplainedLine.{Unexplai
 use Rattle.script_lines.specs.EventLine.{script_text}
 use Rattle.script_recordings.specs.Parts.{split_parts}
 use Rattle.script_recordings.specs.Seen.{AreToldAs, StatesRecording}
-use Rattle.script_recordings.specs.Explained.{first_some, told_first, IsFirstUnexplainedBy, IsJudgedAfter, IsJudgedLater, AreJudgedLater, IsJudgedSince, HasNoPart, NothingExplains, IsLaterWitness}
-use Rattle.script_recordings.specs.inner.Reads.{TellsUnexplained, TellsJudged}
+use Rattle.script_recordings.specs.Explained.{first_some, told_first, IsFirstUnexplainedBy, IsJudgedAfter, IsJudgedLater, IsJudgedBehind, AreJudgedLater, IsJudgedSince, HasNoPart, NothingExplains, IsLaterWitness}
+use Rattle.script_recordings.specs.inner.Reads.{AreMarkedAs, TellsUnexplained, TellsJudged}
 use Rattle.script_recordings.specs.inner.PartsTold.{judged_of}
 use Rattle.script_recordings.specs.inner.Settled.{IsSettled}
 use Rattle.script_recordings.proofs.SettleLaws.{all_seen}
-use Rattle.script_recordings.proofs.ReadLaws.{AreMarkedAs, are_told, Split, split}
+use Rattle.script_recordings.proofs.ReadLaws.{are_told, Split, split}
 use Rattle.script_recordings.proofs.ExplainedLaws.{sightings_alike, reading_alike, first_told, first_none, none_told, told_none}
 
 -- the transmitters of what can be reached of a profile can be shut down
@@ -105,17 +105,17 @@ part_never D P alike events (Some after) told judged i = (
 
 -- so one is of which something is told of parts
 pub parts_never : (D P : Description) → AnswersAlike D P → (script : List ℕ) (events : List StatedEvent) → stated_through script ≡ Ok events → (parts : List (List StatedEvent)) (after : Option ℕ) (told : ToldAnswer)
-    (judged : List MaybeSighting) → AreJudgedLater D parts after (Some told) judged → (front : List (List StatedEvent)) → split_parts events ≡ front ++ parts → NothingExplains P script
-parts_never D P alike script events says [] after told judged (at, is, none) front whole = absurd (cc)
-parts_never D P alike script events says (part ∷ parts) after told judged (line, lines, one, others, seen, more, i, are, at, is, all) front whole =
+    (stretches : ℕ) (judged : List MaybeSighting) → AreJudgedLater D parts after (Some told) stretches judged → (front : List (List StatedEvent)) → split_parts events ≡ front ++ parts → NothingExplains P script
+parts_never D P alike script events says [] after told stretches judged (at, is, many, none) front whole = absurd (cc)
+parts_never D P alike script events says (part ∷ parts) after told stretches judged (line, lines, one, others, n, m, seen, more, i, are, at, is, many, all) front whole =
     by one i is
-    (λ e. parts_never D P alike script events says parts lines told more (subst (λ q. AreJudgedLater D parts lines q more) (sym e) are) (front ++ part ∷ [])
+    (λ e. parts_never D P alike script events says parts lines told m more (subst (λ q. AreJudgedLater D parts lines q m more) (sym e) are) (front ++ part ∷ [])
     (whole ∙ sym (append_assoc front (part ∷ []) parts)))
   where
-    by : (o : Option ToldAnswer) → IsJudgedLater D part line o seen → Some told ≡ first_some o others → (Some told ≡ others → NothingExplains P script) → NothingExplains P script
-    by (Some t) i e rest =
-        let n = part_never D P alike part line t seen i in
-        record { before = front; part = part; behind = parts; events = events; says = says; split = whole; recording = n.0; are_told = n.1; never = n.2 }
+    by : (o : Option ToldAnswer) → IsJudgedBehind D n part line o seen → Some told ≡ first_some o others → (Some told ≡ others → NothingExplains P script) → NothingExplains P script
+    by (Some t) (rest, is_behind, i) e more =
+        let never = part_never D P alike rest line t seen i in
+        record { before = front; part = part; behind = parts; events = events; says = says; split = whole; stretches = n; rest = rest; is_behind = is_behind; recording = never.0; are_told = never.1; never = never.2 }
     by None i e rest = rest e
 
 -- what can be reached of a profile answers alike
@@ -125,11 +125,11 @@ normal_alike v P normal reached h e =
     ap (λ D. out D h e) reached ∙ out-reach P h e small
 
 -- where a line is told, nothing explains one of the parts, whenever it began
-pub never_told : (D P : Description) → AnswersAlike D P → (input : Option (List ℕ)) (after : Option ℕ) (first : Option UnexplainedLine) (warning : Option ScriptWarning) (k n : ℕ) →
-    IfSome input (λ script. IsJudgedSince D script after (told_first first) warning k n) → IfSome first (λ line. IfSome input (λ script. NothingExplains P script))
-never_told D P alike input after None warning k n judged = tt
-never_told D P alike None after (Some line) warning k n judged = tt
-never_told D P alike (Some script) after (Some line) warning k n i = parts_never D P alike script i.events i.says (split_parts i.events) after (told_answer line.answer) i.judged i.are_judged [] refl
+pub never_told : (D P : Description) → AnswersAlike D P → (input : Option (List ℕ)) (after : Option ℕ) (first : Option UnexplainedLine) (warning : Option ScriptWarning) (k n m : ℕ) →
+    IfSome input (λ script. IsJudgedSince D script after (told_first first) warning k n m) → IfSome first (λ line. IfSome input (λ script. NothingExplains P script))
+never_told D P alike input after None warning k n m judged = tt
+never_told D P alike None after (Some line) warning k n m judged = tt
+never_told D P alike (Some script) after (Some line) warning k n m i = parts_never D P alike script i.events i.says (split_parts i.events) after (told_answer line.answer) m i.judged i.are_judged [] refl
 
 pub no_part : (input : Option (List ℕ)) (D : Description) (ms : List Marked) → IfSome input (λ script. StatesRecording script (maybe_in ms)) → IsJudgedBy D ms None → IfSome input (HasNoPart D)
 no_part None D ms states none = tt

@@ -1,5 +1,5 @@
 -- The first line of a script that no behaviour of the subsystem explains.
-use Rattle.std.specs.Prelude.{ℕ, suc, ◌≡◌, ◌↔◌, false, Option, Some, None, IfSome, Ok, List, [], ◌∷◌, ◌++◌, length}
+use Rattle.std.specs.Prelude.{ℕ, zero, suc, ◌≡◌, ◌+◌, ◌↔◌, false, Option, Some, None, IfSome, Ok, List, [], ◌∷◌, ◌++◌, length}
 use Rattle.bus_legal.specs.Description.{Description}
 use Rattle.terminal_rules.specs.declared.event.Event.{Event}
 use Rattle.terminal_rules.specs.Same.{AreProper}
@@ -8,6 +8,7 @@ use Rattle.terminal_recordings.specs.Recordings.{Sighting, sightings, sightings_
 use Rattle.terminal_recordings.specs.Later.{IsExplainedLater, IsExplainedAnyTime, no_gaps, ShutDown, shutting, shut_history}
 use Rattle.terminal_recordings.specs.MaybeGaps.{MaybeSighting, Seen, IsReadingOf, ExplainsReading, certain, fresh_part}
 use Rattle.terminal_recordings.specs.Masks.{MaskedSighting, FitsMasked, ExplainsSome}
+use Rattle.recorded_terminal.specs.Marks.{HasManyWays}
 use Rattle.script_lines.specs.Transcript.{answer_text}
 use Rattle.rt1553_verify.specs.declared.stated.ScriptWarning.{ScriptWarning}
 use Rattle.rt1553_verify.specs.Stated.{StatedEvent, stated_through}
@@ -82,19 +83,35 @@ abbrev pub IsJudgedLater : Description → List StatedEvent → Option ℕ → O
 IsJudgedLater D events None told judged = (told ≡ None) × (judged ≡ []) × BeginsNowhere D events
 IsJudgedLater D events (Some line) told judged = IsJudgedAfter D events line told judged
 
+-- a part begins with so many stretches, in each of which the gaps that may have come leave room for more ways than are followed; the rest is behind them
+abbrev pub IsBehindStretches : ℕ → List StatedEvent → List StatedEvent → Type 0
+IsBehindStretches zero events rest = events ≡ rest
+IsBehindStretches (suc n) events rest =
+    (front : List StatedEvent) × (later : List StatedEvent) × (events ≡ front ++ later) × ((recording : List MaybeSighting) × AreToldAs front recording × HasManyWays recording)
+    × IsBehindStretches n later rest
+
+-- what is told of a part: of what is behind so many stretches
+abbrev pub IsJudgedBehind : Description → ℕ → List StatedEvent → Option ℕ → Option ToldAnswer → List MaybeSighting → Type 0
+IsJudgedBehind D n events after told judged = (rest : List StatedEvent) × IsBehindStretches n events rest × IsJudgedLater D rest after told judged
+
+-- so it is from power-up, where the part begins with such a stretch; else of the whole part
+abbrev pub IsJudgedAtFirst : Description → Description → ℕ → List StatedEvent → Option ToldAnswer → List MaybeSighting → Type 0
+IsJudgedAtFirst P D zero events told judged = IsJudgedFirst P events told judged
+IsJudgedAtFirst P D (suc n) events told judged = (after : Option ℕ) × IsJudgedBehind D (suc n) events after told judged
+
 -- What is told of parts, one after the other: the first that is told of any, and the line after which the first of them is judged that is; judged
--- is what is judged of each.
-abbrev pub AreJudgedLater : Description → List (List StatedEvent) → Option ℕ → Option ToldAnswer → List MaybeSighting → Type 0
-AreJudgedLater D [] after told judged = (after ≡ None) × (told ≡ None) × (judged ≡ [])
-AreJudgedLater D (events ∷ parts) after told judged =
-    (line : Option ℕ) × (lines : Option ℕ) × (one : Option ToldAnswer) × (others : Option ToldAnswer) × (seen : List MaybeSighting) × (more : List MaybeSighting)
-    × IsJudgedLater D events line one seen × AreJudgedLater D parts lines others more
-    × (after ≡ first_some line lines) × (told ≡ first_some one others) × (judged ≡ seen ++ more)
+-- is what is judged of each, behind so many stretches in all.
+abbrev pub AreJudgedLater : Description → List (List StatedEvent) → Option ℕ → Option ToldAnswer → ℕ → List MaybeSighting → Type 0
+AreJudgedLater D [] after told stretches judged = (after ≡ None) × (told ≡ None) × (stretches ≡ 0) × (judged ≡ [])
+AreJudgedLater D (events ∷ parts) after told stretches judged =
+    (line : Option ℕ) × (lines : Option ℕ) × (one : Option ToldAnswer) × (others : Option ToldAnswer) × (n : ℕ) × (m : ℕ) × (seen : List MaybeSighting) × (more : List MaybeSighting)
+    × IsJudgedBehind D n events line one seen × AreJudgedLater D parts lines others m more
+    × (after ≡ first_some line lines) × (told ≡ first_some one others) × (stretches ≡ n + m) × (judged ≡ seen ++ more)
 
 -- What is told of a script that states a recording, from power-up: of its first part, or else of the others, which are judged by what can be
--- reached. A warning says why what is judged shows nothing, where it does. So many words are stated, and so many slots are in it in which the unit may
--- have been silent.
-pub record IsJudgedFrom (P D : Description) (script : List ℕ) (told : Option ToldAnswer) (warning : Option ScriptWarning) (answers silences : ℕ) : Type 0 where
+-- reached. A warning says why what is judged shows nothing, where it does. So many words are stated, so many slots are in it in which the unit may
+-- have been silent, and so many stretches in which too many ways are left.
+pub record IsJudgedFrom (P D : Description) (script : List ℕ) (told : Option ToldAnswer) (warning : Option ScriptWarning) (answers silences stretches : ℕ) : Type 0 where
   pub events : List StatedEvent
   pub says : stated_through script ≡ Ok events
   pub front : List StatedEvent
@@ -102,23 +119,25 @@ pub record IsJudgedFrom (P D : Description) (script : List ℕ) (told : Option T
   pub split : split_parts events ≡ front ∷ parts
   pub first : Option ToldAnswer
   pub recording : List MaybeSighting
-  pub judged_first : IsJudgedFirst P front first recording
+  pub in_first : ℕ
+  pub judged_first : IsJudgedAtFirst P D in_first front first recording
   pub after : Option ℕ
   pub later : Option ToldAnswer
+  pub in_others : ℕ
   pub judged : List MaybeSighting
-  pub judged_later : AreJudgedLater D parts after later judged
+  pub judged_later : AreJudgedLater D parts after later in_others judged
   pub is : told ≡ first_some first later
   pub warned : warning ≡ recorded_warning (recording ++ judged)
   pub stated : StateWords events answers
-  pub counted : silences ≡ length parts
+  pub counted : (silences ≡ length parts) × (stretches ≡ in_first + in_others)
 
 -- What is told of a script that states a recording which began at any time: of all its parts, and the line after which the first of them is
 -- judged that is.
-pub record IsJudgedSince (D : Description) (script : List ℕ) (after : Option ℕ) (told : Option ToldAnswer) (warning : Option ScriptWarning) (answers silences : ℕ) : Type 0 where
+pub record IsJudgedSince (D : Description) (script : List ℕ) (after : Option ℕ) (told : Option ToldAnswer) (warning : Option ScriptWarning) (answers silences stretches : ℕ) : Type 0 where
   pub events : List StatedEvent
   pub says : stated_through script ≡ Ok events
   pub judged : List MaybeSighting
-  pub are_judged : AreJudgedLater D (split_parts events) after told judged
+  pub are_judged : AreJudgedLater D (split_parts events) after told stretches judged
   pub warned : warning ≡ recorded_warning judged
   pub stated : StateWords events answers
   pub counted : length (split_parts events) ≡ suc silences
@@ -127,7 +146,7 @@ pub record IsJudgedSince (D : Description) (script : List ℕ) (after : Option �
 abbrev pub HasNoPart : Description → List ℕ → Type 0
 HasNoPart D script = (recording : List MaybeSighting) × StatesRecording script recording × (fresh_part D no_gaps recording ≡ None)
 
--- one of the parts of a script is such that no behaviour of the subsystem explains it, whenever it began
+-- one of the parts of a script is such that no behaviour of the subsystem explains what is behind stretches of it, whenever that began
 pub record NothingExplains (P : Description) (script : List ℕ) : Type 0 where
   pub before : List (List StatedEvent)
   pub part : List StatedEvent
@@ -135,8 +154,11 @@ pub record NothingExplains (P : Description) (script : List ℕ) : Type 0 where
   pub events : List StatedEvent
   pub says : stated_through script ≡ Ok events
   pub split : split_parts events ≡ before ++ part ∷ behind
+  pub stretches : ℕ
+  pub rest : List StatedEvent
+  pub is_behind : IsBehindStretches stretches part rest
   pub recording : List MaybeSighting
-  pub are_told : AreToldAs part recording
+  pub are_told : AreToldAs rest recording
   pub never : ExplainsReading (IsExplainedAnyTime P) recording → ⊥
 
 -- Events that can come, of which just that is seen which came for certain, if some behaviour of the subsystem explains that. Gaps that may

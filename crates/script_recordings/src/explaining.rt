@@ -1,17 +1,22 @@
 //! The first line of a recording that nothing explains.
-ghost use Rattle.std.specs.Prelude.{◌≡◌, ◌<◌, true, false, IfOk, IfErr, IfSome, List, None};
+ghost use Rattle.std.specs.Prelude.{◌≡◌, ◌<◌, ◌++◌, true, false, IfOk, IfErr, IfSome, List, [], None, OnOk};
 ghost use Rattle.bus_legal.specs.Description.{Description};
 ghost use Rattle.bus_legal.specs.Parts.{description_in, IsNormal};
 ghost use Rattle.bus_legal.specs.Reach.{reach};
 ghost use Rattle.recorded_terminal.specs.declared.watch.Marked.{Marked};
-ghost use Rattle.recorded_terminal.specs.Marks.{masked};
+ghost use Rattle.bus_legal.specs.Tables.{tables_say};
+ghost use Rattle.recorded_terminal.specs.Judged.{WatchesLater};
+ghost use Rattle.recorded_terminal.specs.Marks.{masked, maybe_in, HasManyWays};
+ghost use Rattle.recorded_terminal.specs.Watched.{Watches};
 ghost use Rattle.recorded_terminal.specs.SentWords.{word_shown};
 ghost use Rattle.rt1553_verify.specs.Reader.{left_in, turns_left};
+ghost use Rattle.rt1553_verify.specs.Stated.{StatedEvent};
 ghost use Rattle.rt1553_verify.specs.Verify.{told_answer};
 ghost use Rattle.script_recordings.specs.Seen.{stated_word, recorded_warning, AreNoRecording, StatesNoRecording};
 ghost use Rattle.script_recordings.specs.Explained.{told_at, first_some, told_first, IsJudgedFrom, IsJudgedSince, NothingExplains};
-ghost use Rattle.script_recordings.specs.inner.Reads.{ReadsThen, TellsUnexplained, TellsJudged};
-ghost use Rattle.script_recordings.specs.inner.PartsTold.{joined_warning, judged_of, TellsNone, TellsThen, IsToldFirst, IsToldLater, AreOthersTold};
+ghost use Rattle.script_recordings.specs.inner.Plays.{AnswerAlike};
+ghost use Rattle.script_recordings.specs.inner.Reads.{AreMarkedAs, IsUnlessMany, ReadsThen, TellsUnexplained, TellsJudged};
+ghost use Rattle.script_recordings.specs.inner.PartsTold.{joined_warning, judged_of, CountsStretches, TellsJust, TellsThen, IsToldFirst, IsToldLater, AreOthersTold};
 ghost use Rattle.script_recordings.specs.inner.Tallies.{IsTally};
 
 use crate::reading::{RecordingFault, RecordingReader};
@@ -19,7 +24,7 @@ use crate::tally::Tally;
 use crate::words::open_line;
 use bus_legal::Normal;
 use bus_terminal::{Answer, Sent};
-use recorded_terminal::{FreshPart, LaterWatch, Marked, Unexplained, Watch};
+use recorded_terminal::{FreshPart, LaterWatch, Marked, Unexplained, Watch, WatchFault};
 use rt1553_verify::{ScriptWarning, StatedFault, WrongAnswer};
 use script_lines::write_answer;
 use std::alloc::{AllocError, Global};
@@ -41,6 +46,9 @@ pub struct Explained {
     pub answers: usize,
     /// In how many of its slots the unit may have been silent: behind each, what it did is not judged up to the next pause.
     pub silences: u64,
+    /// In how many stretches of it gaps that may have come leave more than 64 ways open: nothing of these is judged, and behind each it is
+    /// judged from the next pause on.
+    pub stretches: u64,
     /// Why what is judged shows nothing, or little, where it does.
     pub warning: Option<ScriptWarning>,
     pub first: Option<UnexplainedLine>,
@@ -53,6 +61,9 @@ pub struct ExplainedSince {
     pub answers: usize,
     /// In how many of its slots the unit may have been silent: behind each, what it did is not judged up to the next pause.
     pub silences: u64,
+    /// In how many stretches of it gaps that may have come leave more than 64 ways open: nothing of these is judged, and behind each it is
+    /// judged from the next pause on.
+    pub stretches: u64,
     /// Why what is judged shows nothing, where it does.
     pub warning: Option<ScriptWarning>,
     /// The line of the slot that ends the pause after which it is judged. None where no part of it begins afresh after a pause.
@@ -123,6 +134,7 @@ fn first_told(
 #[derive(Drop)]
 struct PartTold {
     answers: usize,
+    stretches: u64,
     warning: Option<ScriptWarning>,
     /// The line after which the first of them is judged that is.
     after: Option<u64>,
@@ -151,27 +163,32 @@ fn joined_warning(one: Option<ScriptWarning>, other: Option<ScriptWarning>) -> O
 }
 
 impl PartTold {
-    /// Nothing is told of no parts.
-    fn none() -> PartTold
-        ensures { TellsNone result }
+    /// Nothing is judged of so many stretches, which state so many words.
+    fn unjudged(answers: usize, stretches: u64) -> PartTold
+        ensures { TellsJust answers stretches result }
     {
         PartTold {
-            answers: 0,
+            answers,
+            stretches,
             warning: Some(ScriptWarning::NoEvent),
             after: None,
             first: None,
         }
     }
 
-    /// What is told of these parts and then of others. More than 2^64 - 1 words are as if memory had run out.
+    /// What is told of these parts and then of others. More than 2^64 - 1 words or stretches are as if memory had run out.
     fn then(self, others: PartTold) -> Result<PartTold, AllocError>
         ensures { IfOk result (TellsThen self others) }
     {
         let Some(answers) = self.answers.checked_add(others.answers) else {
             return Err(AllocError);
         };
+        let Some(stretches) = self.stretches.checked_add(others.stretches) else {
+            return Err(AllocError);
+        };
         Ok(PartTold {
             answers,
+            stretches,
             warning: joined_warning(self.warning, others.warning),
             after: first_some(self.after, others.after),
             first: first_some(self.first, others.first),
@@ -187,48 +204,129 @@ fn later_told(
 ) -> Result<PartTold, AllocError>
     ensures told { IfOk result (λ told. TellsJudged judged told.after told.first) }
     ensures warned { IfOk result (λ told. (ms : List Marked) → IsTally ms tally.now → told.warning ≡ recorded_warning (judged_of judged ms)) }
-    ensures answers { IfOk result (λ told. told.answers ≡ tally.now.answers) }
+    ensures counts { IfOk result (λ told. (told.answers ≡ tally.now.answers) × (told.stretches ≡ 0)) }
 {
     match judged {
         Some(judged) => Ok(PartTold {
             answers: tally.answers,
+            stretches: 0,
             warning: tally.warning_behind(judged.before),
             after: Some(judged.after),
             first: first_told(alloc, judged.first)?,
         }),
-        None => Ok(PartTold {
-            answers: tally.answers,
-            warning: Some(ScriptWarning::NoEvent),
-            after: None,
-            first: None,
-        }),
+        None => Ok(PartTold::unjudged(tally.answers, 0)),
     }
 }
 
-/// Judges the next part of a recording from power-up.
+/// Stretches of a part in which too many ways are left.
+#[derive(Clone, Copy)]
+struct Stretches {
+    count: u64,
+    /// How many words they state.
+    answers: usize,
+}
+
+impl Stretches {
+    /// None yet.
+    fn none() -> Stretches
+        ensures { CountsStretches [] result }
+    {
+        Stretches {
+            count: 0,
+            answers: 0,
+        }
+    }
+
+    /// Takes one more. More than 2^64 - 1, or words, are as if memory had run out.
+    fn add(&mut self, tally: &Tally) -> Result<(), AllocError>
+        ensures { OnOk result ((cs ms : List Marked) → CountsStretches cs self.old → HasManyWays (maybe_in ms) → IsTally ms tally.now → CountsStretches (cs ++ ms) self.new) }
+    {
+        let Some(answers) = self.answers.checked_add(tally.answers) else {
+            return Err(AllocError);
+        };
+        let Some(count) = self.count.checked_add(1) else {
+            return Err(AllocError);
+        };
+        self.answers = answers;
+        self.count = count;
+        Ok(())
+    }
+}
+
+/// What a watch gives, or None where too many ways are left.
+fn unless_many<T: Drop>(seen: Result<T, WatchFault>) -> Result<Option<T>, AllocError>
+    ensures { IfOk result (λ it. IsUnlessMany seen it) }
+{
+    match seen {
+        Ok(it) => Ok(Some(it)),
+        Err(WatchFault::TooManyWays) => Ok(None),
+        Err(WatchFault::Memory) => Err(AllocError),
+    }
+}
+
+/// What is told of the last stretch of a part from power-up, which has no other.
+fn end_first(alloc: Global, watch: Watch<Normal>, tally: &Tally) -> Result<PartTold, AllocError>
+    ensures { IfOk result (λ told. (P Q D : Description) (events : List StatedEvent) (ms : List Marked) → AnswerAlike Q P → AreMarkedAs events ms → Watches (λ normal. tables_say normal.tables) Q [] ms watch → IsTally ms tally.now → IsToldFirst P D events told) }
+{
+    match unless_many(watch.end())? {
+        Some(first) => Ok(PartTold {
+            answers: tally.answers,
+            stretches: 0,
+            warning: tally.warning_behind(0),
+            after: None,
+            first: first_told(alloc, first)?,
+        }),
+        None => Ok(PartTold::unjudged(tally.answers, 1)),
+    }
+}
+
+/// The same of one that began at any time.
+fn end_later(
+    alloc: Global,
+    watch: LaterWatch<Normal>,
+    tally: &Tally,
+) -> Result<PartTold, AllocError>
+    ensures { IfOk result (λ told. (D : Description) (events : List StatedEvent) (ms : List Marked) → AreMarkedAs events ms → WatchesLater (λ normal. tables_say normal.tables) D ms watch → IsTally ms tally.now → IsToldLater D events told) }
+{
+    match unless_many(watch.end())? {
+        Some(judged) => later_told(alloc, tally, judged),
+        None => Ok(PartTold::unjudged(tally.answers, 1)),
+    }
+}
+
+/// Judges the next part of a recording from power-up. Behind a stretch in which too many ways are left it is one that began at any time.
 fn judge_first<B: BufRead + Drop>(
     alloc: Global,
     normal: &Normal,
     reader: &mut RecordingReader<B>,
 ) -> Result<PartTold, RecordingFault>
-    ensures judged { IfOk result (λ told. ReadsThen (left_in B.remaining reader.old.script) (left_in B.remaining reader.new.script) reader.new.silence (λ events. (P : Description) → description_in normal.now ≡ reach P → IsToldFirst P events told)) }
+    ensures judged { IfOk result (λ told. ReadsThen (left_in B.remaining reader.old.script) (left_in B.remaining reader.new.script) reader.new.silence (λ events. (P : Description) → description_in normal.now ≡ reach P → IsToldFirst P (description_in normal.now) events told)) }
     ensures refused { IfErr result (λ fault. IfSome (left_in B.remaining reader.old.script) (λ said. AreNoRecording said fault)) }
 {
     let mut watch = Watch::power_up(alloc, normal.setup(), *normal)?;
     let mut tally = Tally::new();
     'sightings: while let Some(marked) = reader.next()? {
         tally.take(&marked)?;
-        watch.see(marked)?;
+        match unless_many(watch.see(marked))? {
+            Some(_) => {}
+            None => {
+                let rest = judge_later(alloc, normal, reader)?;
+                return Ok(PartTold::unjudged(tally.answers, 1).then(rest)?);
+            }
+        }
     }
-    Ok(PartTold {
-        answers: tally.answers,
-        warning: tally.warning_behind(0),
-        after: None,
-        first: first_told(alloc, watch.end()?)?,
-    })
+    Ok(end_first(alloc, watch, &tally)?)
 }
 
-/// Judges the next part of a recording that began at any time.
+/// A watch of a terminal that was on before.
+fn begin_later(alloc: Global, normal: &Normal) -> Result<LaterWatch<Normal>, AllocError>
+    ensures begun { IfOk result (WatchesLater (λ normal. tables_say normal.tables) (description_in normal.now) []) }
+    ensures normal { IsNormal normal.now }
+{
+    LaterWatch::new(alloc, normal.setup(), *normal)
+}
+
+/// Judges the next part of a recording that began at any time, anew behind each stretch in which too many ways are left.
 fn judge_later<B: BufRead + Drop>(
     alloc: Global,
     normal: &Normal,
@@ -239,13 +337,22 @@ fn judge_later<B: BufRead + Drop>(
     ensures fewer { IfOk result (λ _. IfSome reader.new.silence (λ _. turns_left reader.new.script < turns_left reader.old.script)) }
     ensures normal { IsNormal normal.now }
 {
-    let mut watch = LaterWatch::new(alloc, normal.setup(), *normal)?;
+    let mut stretches = Stretches::none();
+    let mut watch = begin_later(alloc, normal)?;
     let mut tally = Tally::new();
     'sightings: while let Some(marked) = reader.next()? {
         tally.take(&marked)?;
-        watch.see(marked)?;
+        match unless_many(watch.see(marked))? {
+            Some(_) => {}
+            None => {
+                stretches.add(&tally)?;
+                watch = begin_later(alloc, normal)?;
+                tally = Tally::new();
+            }
+        }
     }
-    Ok(later_told(alloc, &tally, watch.end()?)?)
+    let last = end_later(alloc, watch, &tally)?;
+    Ok(PartTold::unjudged(stretches.answers, stretches.count).then(last)?)
 }
 
 /// Judges the parts that follow one which has been read, and gives how many there are. More than 2^64 - 1 are as if memory had run out.
@@ -257,7 +364,7 @@ fn judge_others<B: BufRead + Drop>(
     ensures judged { IfOk result (λ told. AreOthersTold (description_in normal.now) (left_in B.remaining reader.old.script) reader.old.silence told.0 told.1) }
     ensures refused { IfErr result (λ fault. (reader.old.silence ≡ None → ⊥) × IfSome (left_in B.remaining reader.old.script) (λ said. AreNoRecording said fault)) }
 {
-    let (mut told, mut parts) = (PartTold::none(), 0_u64);
+    let (mut told, mut parts) = (PartTold::unjudged(0, 0), 0_u64);
     'parts: while reader.silence.is_some() {
         let part = judge_later(alloc, normal, reader)?;
         told = told.then(part)?;
@@ -271,14 +378,14 @@ fn judge_others<B: BufRead + Drop>(
 
 /// Reads a recording, of a terminal from power-up, for the first event which no behaviour of the subsystem explains: what is stated of
 /// it, and a line with which it would be explained. None where the whole recording is explained, with some of the gaps in it that may have
-/// come. Behind a slot in which the unit may have been silent it is judged from the next pause on, as by `watch_since`. A script that states no
-/// recording is refused. Behind a status word at most 16,383 events are kept.
+/// come. Behind a slot in which the unit may have been silent, and where more than 64 ways are left, it is judged from the next pause on, as by
+/// `watch_since`. A script that states no recording is refused. Behind a status word at most 16,383 events are kept.
 pub fn watch_recording<B: BufRead + Drop>(
     alloc: Global,
     normal: &Normal,
     input: B,
 ) -> Result<Explained, RecordingFault>
-    ensures judged { (P : Description) → description_in normal.now ≡ reach P → IfOk result (λ it. IfSome (B.remaining input) (λ script. IsJudgedFrom P (description_in normal.now) script (told_first it.first) it.warning it.answers it.silences)) }
+    ensures judged { (P : Description) → description_in normal.now ≡ reach P → IfOk result (λ it. IfSome (B.remaining input) (λ script. IsJudgedFrom P (description_in normal.now) script (told_first it.first) it.warning it.answers it.silences it.stretches)) }
     ensures refused { IfErr result (λ fault. IfSome (B.remaining input) (λ script. StatesNoRecording script fault)) }
 {
     let mut reader = RecordingReader::new(alloc, normal.address(), input);
@@ -288,20 +395,21 @@ pub fn watch_recording<B: BufRead + Drop>(
     Ok(Explained {
         answers: told.answers,
         silences,
+        stretches: told.stretches,
         warning: told.warning,
         first: told.first,
     })
 }
 
 /// Reads a recording that began at any time for the first event, in what begins afresh after a pause, which no behaviour of the subsystem
-/// explains, whatever came before. Behind a slot in which the unit may have been silent the same is sought anew. A script that states no
-/// recording is refused. Behind a status word at most 16,383 events are kept.
+/// explains, whatever came before. Behind a slot in which the unit may have been silent, and where more than 64 ways are left, the same is sought
+/// anew. A script that states no recording is refused. Behind a status word at most 16,383 events are kept.
 pub fn watch_since<B: BufRead + Drop>(
     alloc: Global,
     normal: &Normal,
     input: B,
 ) -> Result<ExplainedSince, RecordingFault>
-    ensures judged { IfOk result (λ it. IfSome (B.remaining input) (λ script. IsJudgedSince (description_in normal.now) script it.after (told_first it.first) it.warning it.answers it.silences)) }
+    ensures judged { IfOk result (λ it. IfSome (B.remaining input) (λ script. IsJudgedSince (description_in normal.now) script it.after (told_first it.first) it.warning it.answers it.silences it.stretches)) }
     ensures never { (P : Description) → description_in normal.now ≡ reach P → IfOk result (λ it. IfSome it.first (λ line. IfSome (B.remaining input) (λ script. NothingExplains P script))) }
     ensures refused { IfErr result (λ fault. IfSome (B.remaining input) (λ script. StatesNoRecording script fault)) }
 {
@@ -312,6 +420,7 @@ pub fn watch_since<B: BufRead + Drop>(
     Ok(ExplainedSince {
         answers: told.answers,
         silences,
+        stretches: told.stretches,
         warning: told.warning,
         after: told.after,
         first: told.first,

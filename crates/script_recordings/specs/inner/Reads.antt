@@ -31,6 +31,18 @@ watch_fault_of watch.TooManyWays = TooManyWays
 abbrev pub IsMarkedAs : StatedEvent → Marked → Type 0
 IsMarkedAs s m = IsToldAs s (maybe m) × (m.line ≡ s.line)
 
+-- event by event
+abbrev pub AreMarkedAs : List StatedEvent → List Marked → Type 0
+AreMarkedAs [] [] = Unit {0}
+AreMarkedAs (s ∷ ss) (m ∷ ms) = IsMarkedAs s m × AreMarkedAs ss ms
+AreMarkedAs _ _ = ⊥
+
+-- what a watch gives, unless too many ways are left or memory runs out
+abbrev pub IsUnlessMany : {T : Type 0} → Result T WatchFault → Option T → Type 0
+IsUnlessMany (Ok it) (Some given) = given ≡ it
+IsUnlessMany (Err watch.TooManyWays) None = Unit {0}
+IsUnlessMany _ _ = ⊥
+
 -- the fault says nothing of the script
 abbrev pub SaysNothing : RecordingFault → Type 0
 SaysNothing fault = (fault ≡ Script Memory) ⊎ (fault ≡ Script Read)

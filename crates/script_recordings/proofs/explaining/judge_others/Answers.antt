@@ -6,7 +6,7 @@ use Rattle.script_recordings.proofs.PartLaws.{others_none, others_more, others_r
 use Rattle.script_recordings.proofs.explaining.judge_others.Goals as goal
 
 pub parts-init : goal.parts-init
-parts-init g c = others_none (description_in c.args.normal.now) (left_in g.B.Read.remaining c.args.reader.now.script) c.args.reader.now.silence c.none-told.result c.none-told.ensures
+parts-init g c = others_none (description_in c.args.normal.now) (left_in g.B.Read.remaining c.args.reader.now.script) c.args.reader.now.silence c.unjudged-told.result c.unjudged-told.ensures
 
 pub parts-preserved : goal.parts-preserved
 parts-preserved g c =

@@ -20,7 +20,7 @@ returns-clause-never g c P reached =
     let v = c.args.normal.now in
     let D : Description = description_in v in
     let alike : AnswersAlike D P = normal_alike v P c.in_ok-first.ensures.normal reached in
-    never_told D P alike (g.B.Read.remaining c.args.input) c.in_ok-told.told.after c.in_ok-told.told.first c.in_ok-told.told.warning c.in_ok-told.told.answers c.in_ok-others.silences (returns-clause-judged g c)
+    never_told D P alike (g.B.Read.remaining c.args.input) c.in_ok-told.told.after c.in_ok-told.told.first c.in_ok-told.told.warning c.in_ok-told.told.answers c.in_ok-others.silences c.in_ok-told.told.stretches (returns-clause-judged g c)
 
 pub returns-in_err-others-clause-refused : goal.returns-in_err-others-clause-refused
 returns-in_err-others-clause-refused g c =
