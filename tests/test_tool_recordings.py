@@ -9,6 +9,8 @@ from schemas import misfits
 ASK = "A c 2c02\nA gap\nslot\n"
 PAUSE = "A gap\nA gap\nB gap\nB gap\nslot\n"
 UNHEARD = "slots in which the unit may be silent: 1; behind each nothing is judged up to the next pause\n"
+TOO_MANY = "not judged: gaps that may have come leave too many ways open\n"
+CROWDED = "stretches that leave too many ways open: 1; none is judged, nor what follows it up to the next pause\n"
 AGAIN = "A c 2c05\nA gap\nslot\n"
 FLAGS = "A c 2c61\nA gap\nslot\n#> A s 2d00\nA c 2c61\nA gap\nslot\n#> A s 2c05\n"
 LEFT_OUT = "hands: warning: what is handed over is left out: a bus does not show it\n"
@@ -69,6 +71,9 @@ RECORDINGS = with_files(
         "behind": f"{BESIDE}#> B s 2800\n",
         "most": f"{CUT * 6}{PAUSE}{ASK}#> A s 2c00\n",
         "more": f"{CUT * 7}{PAUSE}{ASK}#> A s 2c00\n",
+        "right": f"{CUT * 7}{PAUSE}{ASK}#> A s 2c00\n{PAUSE}{AGAIN}#> A s 2800\n",
+        "wrong": f"{CUT * 7}{PAUSE}{ASK}#> A s 2c00\n{PAUSE}{AGAIN}#> A s 2820\n",
+        "crowds": f"{CUT * 7}{PAUSE}{ASK}#> A s 2c00\n" * 2 + f"{CUT * 7}",
         "whole": 'address = 5\nbroadcast = true\n[[rule]]\ndirection = "both"\nsubaddresses = "1-30"\ncounts = "1-32"\nto = "both"\n',
         "names": "kind,value,code,name\naddress,5,,\nmode,,2,status\n",
         **{sent.replace(" ", ""): f"# 100.5\nA c 2c61\nA gap\nslot\n#> {sent}\n"
@@ -110,7 +115,16 @@ RECORDINGS = with_files(
     Row("gaps that may have come and do nothing", "verify --any-subsystem --summary five ways", 0,
         "ways: passed (answers: 1)\nno clause: 1 of 1 scripts pass\nall: 1 of 1 scripts pass\n"),
     Row("64 ways", "verify --any-subsystem receives most"),
-    Row("more ways", "verify --any-subsystem receives more", 2, errors="more: gaps that may have come leave too many ways open\n"),
+    Row("more ways", "verify --any-subsystem receives more", 3, f"more: {TOO_MANY}", f"more: {CROWDED}"),
+    Row("what it did behind them", "verify --any-subsystem receives right", 3, f"right: {TOO_MANY}", f"right: {CROWDED}"),
+    Row("a fault behind them", "verify --any-subsystem receives wrong", 1,
+        "wrong:31: another status word: reserved bit 3 is set, in RT 5 mode code 5: recorded A s 2820; the terminal sends A s 2800\nwrong: differences: 1\n",
+        f"wrong: warning: gaps that may have come leave too many ways open\nwrong: {CROWDED}"),
+    Row("more ways at any time", "verify --any-subsystem --already-on receives wrong", 1,
+        "wrong:31: another status word: reserved bit 3 is set, in RT 5 mode code 5: recorded A s 2820; the terminal sends A s 2800\nwrong: differences: 1\n",
+        "wrong: judged after line 28\n"),
+    Row("more ways again and again", "verify --any-subsystem receives crowds", 3, f"crowds: {TOO_MANY}", f"crowds: {CROWDED.replace('1;', '3;')}"),
+    Row("what the subsystem did, with more ways", "verify --any-subsystem --witness receives more", 3, f"more: {TOO_MANY}", f"more: {CROWDED}"),
     Row("a gap that may have come, in a test", "verify five ways"),
     Row("a gap that came before a command on the other bus, or behind it", "verify --any-subsystem --summary receives before behind", 0,
         "before: passed (answers: 1)\nbehind: passed (answers: 1)\nno clause: 2 of 2 scripts pass\nall: 2 of 2 scripts pass\n"),

@@ -2,7 +2,7 @@
 use Rattle.std.specs.Prelude.{ℕ, Bool, true, false, Option, Some, None, List, codes}
 use Rattle.rt1553_verify.specs.Stated.{warning_text}
 use Rattle.rt1553_report.specs.declared.verdict.Unjudged.{Unjudged}
-use Rattle.rt1553_report.specs.declared.verdict.Unjudged.TheVariants.{Unstated, NoPart}
+use Rattle.rt1553_report.specs.declared.verdict.Unjudged.TheVariants.{Unstated, NoPart, TooManyWays}
 use Rattle.rt1553_report.specs.declared.verdict.ScriptVerdict.{ScriptVerdict}
 use Rattle.rt1553_report.specs.declared.verdict.ScriptVerdict.TheVariants.{Passed, Failed, NotJudged}
 
@@ -16,6 +16,7 @@ verdict_of true (Some why) = NotJudged why
 abbrev pub unjudged_text : Unjudged → List ℕ
 unjudged_text (Unstated warning) = warning_text warning
 unjudged_text NoPart = codes "no part begins afresh after a pause"
+unjudged_text TooManyWays = codes "gaps that may have come leave too many ways open"
 
 -- of what was not played there is no verdict
 abbrev pub verdict_passes : Option ScriptVerdict → Bool

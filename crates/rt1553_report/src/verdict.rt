@@ -4,13 +4,15 @@ ghost use Rattle.rt1553_report.specs.Verdict.{verdict_fails, verdict_passes, is_
 
 use rt1553_verify::ScriptWarning;
 
-/// Why nothing of a script is judged, where nothing of it differs.
+/// Why a script, or some of it, is not judged, where nothing of it differs.
 #[derive(Clone, Copy, Debug, PartialEq, Eq)]
 pub enum Unjudged {
     /// It has no event, or states no answer.
     Unstated(ScriptWarning),
     /// It is a recording that began at any time, and no part of it begins afresh after a pause.
     NoPart,
+    /// It is a recording, and in some stretch of it gaps that may have come leave too many ways open.
+    TooManyWays,
 }
 
 impl Unjudged {
@@ -21,6 +23,7 @@ impl Unjudged {
         match self {
             Unjudged::Unstated(warning) => warning.text(),
             Unjudged::NoPart => "no part begins afresh after a pause",
+            Unjudged::TooManyWays => "gaps that may have come leave too many ways open",
         }
     }
 }
@@ -32,7 +35,7 @@ pub enum ScriptVerdict {
     Passed,
     /// Something differs.
     Failed,
-    /// Nothing differs, and nothing was judged.
+    /// Nothing differs, and nothing was judged, or not all.
     NotJudged(Unjudged),
 }
 

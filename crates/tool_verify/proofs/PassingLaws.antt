@@ -16,7 +16,7 @@ use Rattle.rt1553_verify.specs.Verify.{ToldAnswer, told_answer, wrong_answers_fr
 use Rattle.script_recordings.specs.declared.explaining.UnexplainedLine.{UnexplainedLine}
 use Rattle.script_recordings.specs.Explained.{told_first, IsJudgedFrom, IsJudgedSince, NothingExplains}
 use Rattle.rt1553_tool_args.specs.declared.command.ScriptKind.TheVariants.{Recording, LaterRecording}
-use Rattle.tool_verify.specs.Passing.{tells_nothing, scoped, test_kind, unjudged_by, unjudged_since, unjudged_test, TestStates, SaysBy, SaysOf}
+use Rattle.tool_verify.specs.Passing.{tells_nothing, scoped, test_kind, unjudged_by, unjudged_recorded, unjudged_since, unjudged_test, TestStates, SaysBy, SaysOf}
 
 -- the verdict on the events of a test is that on the test
 pub says_so : (on_bus : Bool) (P : Description) (script : List ℕ) (stated seen : List StatedEvent) (answers : ℕ) (same : Bool) (unjudged : Option Unjudged)
@@ -60,14 +60,15 @@ handed_on : (Says : ℕ → ℕ → Type 0) (k n l m : ℕ) → (l ≡ k) × (m 
 handed_on Says k n l m same says = subst (λ l. Says l m) (sym same.0) (subst (Says k) (sym same.1) says)
 
 -- the verdict on a recording, by what is told of it
-pub says_recorded : (input : Option (List ℕ)) (value : Parts) (first : Option UnexplainedLine) (warning : Option ScriptWarning) (k n l m : ℕ) (same : Bool) (unjudged : Option Unjudged)
-    → ((P : Description) → description_in value ≡ reach P → IfSome input (λ script. IsJudgedFrom P (description_in value) script (told_first first) warning k n))
-    → same ≡ is_none first → unjudged ≡ unjudged_by warning → (l ≡ k) × (m ≡ n) → IfSome input (λ script. SaysOf Recording value script (verdict_of same unjudged) l m)
-says_recorded None value first warning k n l m same unjudged judged told why counts = tt
-says_recorded (Some script) value first warning k n l m same unjudged judged told why counts = λ P reached. record {
+pub says_recorded : (input : Option (List ℕ)) (value : Parts) (first : Option UnexplainedLine) (warning : Option ScriptWarning) (k n o l m : ℕ) (same : Bool) (unjudged : Option Unjudged)
+    → ((P : Description) → description_in value ≡ reach P → IfSome input (λ script. IsJudgedFrom P (description_in value) script (told_first first) warning k n o))
+    → same ≡ is_none first → unjudged ≡ unjudged_recorded o warning → (l ≡ k) × (m ≡ n) → IfSome input (λ script. SaysOf Recording value script (verdict_of same unjudged) l m)
+says_recorded None value first warning k n o l m same unjudged judged told why counts = tt
+says_recorded (Some script) value first warning k n o l m same unjudged judged told why counts = λ P reached. record {
   told = told_first first;
   warning = warning;
-  judged = handed_on (IsJudgedFrom P (reach P) script (told_first first) warning) k n l m counts (subst (λ D. IsJudgedFrom P D script (told_first first) warning k n) reached (judged P reached));
+  stretches = o;
+  judged = handed_on (λ k n. IsJudgedFrom P (reach P) script (told_first first) warning k n o) k n l m counts (subst (λ D. IsJudgedFrom P D script (told_first first) warning k n o) reached (judged P reached));
   is = λ j. verdict_of ((told ∙ none_told first) j) (why j);
 }
 
@@ -77,16 +78,17 @@ no_failure None e = absurd (cc)
 no_failure (Some why) e = absurd (cc)
 
 -- the verdict on a recording that began at any time
-pub says_later : (input : Option (List ℕ)) (value : Parts) (after : Option ℕ) (warning : Option ScriptWarning) (k n l m : ℕ) (first : Option UnexplainedLine) (same : Bool) (unjudged : Option Unjudged) →
-    IfSome input (λ script. IsJudgedSince (description_in value) script after (told_first first) warning k n) →
+pub says_later : (input : Option (List ℕ)) (value : Parts) (after : Option ℕ) (warning : Option ScriptWarning) (k n o l m : ℕ) (first : Option UnexplainedLine) (same : Bool) (unjudged : Option Unjudged) →
+    IfSome input (λ script. IsJudgedSince (description_in value) script after (told_first first) warning k n o) →
     ((P : Description) → description_in value ≡ reach P → IfSome first (λ line. IfSome input (λ script. NothingExplains P script))) →
-    same ≡ is_none first → unjudged ≡ unjudged_since after warning → (l ≡ k) × (m ≡ n) → IfSome input (λ script. SaysOf LaterRecording value script (verdict_of same unjudged) l m)
-says_later None value after warning k n l m first same unjudged judged never told why counts = tt
-says_later (Some script) value after warning k n l m first same unjudged judged never told why counts = λ P reached. record {
+    same ≡ is_none first → unjudged ≡ unjudged_since o after warning → (l ≡ k) × (m ≡ n) → IfSome input (λ script. SaysOf LaterRecording value script (verdict_of same unjudged) l m)
+says_later None value after warning k n o l m first same unjudged judged never told why counts = tt
+says_later (Some script) value after warning k n o l m first same unjudged judged never told why counts = λ P reached. record {
   after = after;
   told = told_first first;
   warning = warning;
-  judged = handed_on (IsJudgedSince (reach P) script after (told_first first) warning) k n l m counts (subst (λ D. IsJudgedSince D script after (told_first first) warning k n) reached judged);
+  stretches = o;
+  judged = handed_on (λ k n. IsJudgedSince (reach P) script after (told_first first) warning k n o) k n l m counts (subst (λ D. IsJudgedSince D script after (told_first first) warning k n o) reached judged);
   is = λ j. verdict_of ((told ∙ none_told first) j) (why j);
   never = λ fails. by P first refl fails (never P reached);
 }

@@ -1,5 +1,5 @@
--- The verdict on a script: it passes, or fails, or nothing of it is judged; and the status of one that is refused.
-use Rattle.std.specs.Prelude.{ℕ, ◌≤◌, ◌==◌, Option, Some, None, is_none, option_map, ◌≡◌, ◌⊎◌, Bool, true, false, not, if◌then◌else◌, List, [], ◌∷◌, map, filter, length, Result, Ok, Err}
+-- The verdict on a script: it passes, or fails, or it is not judged; and the status of one that is refused.
+use Rattle.std.specs.Prelude.{ℕ, zero, suc, ◌≤◌, ◌==◌, Option, Some, None, is_none, option_map, ◌≡◌, ◌⊎◌, Bool, true, false, not, if◌then◌else◌, List, [], ◌∷◌, map, filter, length, Result, Ok, Err}
 use Rattle.bus_legal.specs.Description.{Description}
 use Rattle.bus_legal.specs.Parts.{Parts, description_in}
 use Rattle.bus_legal.specs.Reach.{reach}
@@ -15,7 +15,7 @@ use Rattle.rt1553_report.specs.Results.{outcome_answers, outcome_verdict}
 use Rattle.rt1553_report.specs.Verdict.{verdict_of}
 use Rattle.rt1553_report.specs.declared.result.ScriptOutcome.{ScriptOutcome}
 use Rattle.rt1553_report.specs.declared.verdict.Unjudged.{Unjudged}
-use Rattle.rt1553_report.specs.declared.verdict.Unjudged.TheVariants.{Unstated, NoPart}
+use Rattle.rt1553_report.specs.declared.verdict.Unjudged.TheVariants.{Unstated, NoPart, TooManyWays}
 use Rattle.rt1553_report.specs.declared.verdict.ScriptVerdict.{ScriptVerdict}
 use Rattle.rt1553_report.specs.declared.verdict.ScriptVerdict.TheVariants.{Failed}
 use Rattle.rt1553_tool_args.specs.declared.command.ScriptKind.{ScriptKind}
@@ -74,28 +74,36 @@ unjudged_test (Ok events) = unjudged_by (stated_warning (not (length events == 0
 abbrev pub TestStates : List ℕ → ℕ → Type 0
 TestStates script answers = (events : List StatedEvent) × (stated_in script ≡ Ok events) × (answers ≡ length (filter states_answer events))
 
--- why nothing of a recording that began at any time is judged: no part of it begins afresh after a pause, or that of a warning
-abbrev pub unjudged_since : Option ℕ → Option ScriptWarning → Option Unjudged
-unjudged_since None warning = Some NoPart
-unjudged_since (Some line) warning = unjudged_by warning
+-- why a recording is not judged, or not all of it: in so many stretches of it too many ways are left, or that of a warning
+abbrev pub unjudged_recorded : ℕ → Option ScriptWarning → Option Unjudged
+unjudged_recorded zero warning = unjudged_by warning
+unjudged_recorded (suc n) warning = Some TooManyWays
 
--- The verdict on a recording, for the terminal of P: it fails exactly if nothing explains one of its parts. What is explained passes, if a word was
--- sent in what is judged; else nothing of it is.
+-- the same of one that began at any time: where no such stretch is in it, no part of it may begin afresh after a pause
+abbrev pub unjudged_since : ℕ → Option ℕ → Option ScriptWarning → Option Unjudged
+unjudged_since zero None warning = Some NoPart
+unjudged_since zero (Some line) warning = unjudged_by warning
+unjudged_since (suc n) after warning = Some TooManyWays
+
+-- The verdict on a recording, for the terminal of P: it fails exactly if nothing explains one of its parts, as far as that is judged. What is explained
+-- passes, if a word was sent in what is judged, and too many ways are left in no stretch of it; else it is not judged.
 pub record SaysRecorded (P : Description) (script : List ℕ) (verdict : ScriptVerdict) (answers silences : ℕ) : Type 0 where
   pub told : Option ToldAnswer
   pub warning : Option ScriptWarning
-  pub judged : IsJudgedFrom P (reach P) script told warning answers silences
-  pub is : verdict ≡ verdict_of (is_none told) (unjudged_by warning)
+  pub stretches : ℕ
+  pub judged : IsJudgedFrom P (reach P) script told warning answers silences stretches
+  pub is : verdict ≡ verdict_of (is_none told) (unjudged_recorded stretches warning)
 
 -- The verdict on a recording that began at any time, for the terminal of P, by what of P can be reached. It fails exactly if what is judged of one of
--- its parts is not explained, whatever came before; then nothing explains that part, whenever it began. Without such a part, or a word
--- that was sent in it, nothing is judged.
+-- its parts is not explained, whatever came before; then nothing explains that, whenever it began. Without such a part, or a word
+-- that was sent in it, and where too many ways are left in a stretch, it is not judged.
 pub record SaysSince (P : Description) (script : List ℕ) (verdict : ScriptVerdict) (answers silences : ℕ) : Type 0 where
   pub after : Option ℕ
   pub told : Option ToldAnswer
   pub warning : Option ScriptWarning
-  pub judged : IsJudgedSince (reach P) script after told warning answers silences
-  pub is : verdict ≡ verdict_of (is_none told) (unjudged_since after warning)
+  pub stretches : ℕ
+  pub judged : IsJudgedSince (reach P) script after told warning answers silences stretches
+  pub is : verdict ≡ verdict_of (is_none told) (unjudged_since stretches after warning)
   pub never : verdict ≡ Failed → NothingExplains P script
 
 -- It is the verdict for the terminal of P: on a test, by whether nothing is told of it, or of what the bus alone shows of it, and whether

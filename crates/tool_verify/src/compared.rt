@@ -4,7 +4,7 @@ ghost use Rattle.bus_legal.specs.Parts.{description_in};
 ghost use Rattle.rt1553_verify.specs.Stated.{shown};
 ghost use Rattle.rt1553_verify.specs.declared.stated.StatedFault.TheVariants.{Memory};
 ghost use Rattle.rt1553_report.specs.Verdict.{verdict_of};
-ghost use Rattle.tool_verify.specs.Passing.{IsExplaining, SaysOf, is_later, recording_kind, scoped, test_kind, unjudged_by, unjudged_since, unjudged_test};
+ghost use Rattle.tool_verify.specs.Passing.{IsExplaining, SaysOf, is_later, recording_kind, scoped, test_kind, unjudged_by, unjudged_recorded, unjudged_since, unjudged_test};
 ghost use Rattle.tool_verify.specs.declared.compared.ScriptFault.TheVariants.{Stated, Recording};
 
 use bus_legal::Normal;
@@ -32,6 +32,9 @@ pub struct Compared {
     pub after: Option<u64>,
     /// Of a recording: in how many of its slots the unit may have been silent. What it did behind each is not judged up to the next pause.
     pub silences: u64,
+    /// Of a recording: in how many stretches of it gaps that may have come leave too many ways open. Nothing of these is judged, and behind
+    /// each it is judged from the next pause on.
+    pub stretches: u64,
     pub wrong: Vec<WrongAnswer>,
     /// The command word of the message to which each event belongs that was answered otherwise.
     pub commands: Vec<Option<u16>>,
@@ -106,13 +109,27 @@ fn unjudged_test(stated: &[Stated]) -> Option<Unjudged>
     unjudged_by(script_warning(stated))
 }
 
-/// The same of a recording that began at any time, which is judged after this line.
-fn unjudged_since(after: Option<u64>, warning: Option<ScriptWarning>) -> Option<Unjudged>
-    ensures { result ≡ unjudged_since after warning }
+/// The same of a recording, in so many stretches of which too many ways are left.
+fn unjudged_recorded(stretches: u64, warning: Option<ScriptWarning>) -> Option<Unjudged>
+    ensures { result ≡ unjudged_recorded stretches warning }
+{
+    match stretches {
+        0 => unjudged_by(warning),
+        _ => Some(Unjudged::TooManyWays),
+    }
+}
+
+/// The same of one that began at any time, which is judged after this line.
+fn unjudged_since(
+    stretches: u64,
+    after: Option<u64>,
+    warning: Option<ScriptWarning>,
+) -> Option<Unjudged>
+    ensures { result ≡ unjudged_since stretches after warning }
 {
     match after {
-        Some(_) => unjudged_by(warning),
-        None => Some(Unjudged::NoPart),
+        None if stretches == 0 => Some(Unjudged::NoPart),
+        _ => unjudged_recorded(stretches, warning),
     }
 }
 
@@ -136,6 +153,7 @@ fn compare_test(
         unjudged,
         after: None,
         silences: 0,
+        stretches: 0,
         wrong,
         commands,
     })
@@ -148,6 +166,7 @@ fn compared_recording(
     unjudged: Option<Unjudged>,
     after: Option<u64>,
     silences: u64,
+    stretches: u64,
     first: Option<UnexplainedLine>,
 ) -> Result<Compared, AllocError>
     ensures told { IfOk result (λ it. (length it.wrong.items == 0) ≡ is_none first) }
@@ -164,6 +183,7 @@ fn compared_recording(
         unjudged,
         after,
         silences,
+        stretches,
         wrong,
         commands,
     })
@@ -180,11 +200,12 @@ pub fn compare_recording<B: BufRead + Drop>(
     let Explained {
         answers,
         silences,
+        stretches,
         warning,
         first,
     } = watch_recording(alloc, normal, input)?;
-    let unjudged = unjudged_by(warning);
-    let it = compared_recording(alloc, answers, unjudged, None, silences, first)?;
+    let unjudged = unjudged_recorded(stretches, warning);
+    let it = compared_recording(alloc, answers, unjudged, None, silences, stretches, first)?;
     Ok(it)
 }
 
@@ -199,12 +220,13 @@ pub fn compare_later<B: BufRead + Drop>(
     let ExplainedSince {
         answers,
         silences,
+        stretches,
         warning,
         after,
         first,
     } = watch_since(alloc, normal, input)?;
-    let unjudged = unjudged_since(after, warning);
-    let it = compared_recording(alloc, answers, unjudged, after, silences, first)?;
+    let unjudged = unjudged_since(stretches, after, warning);
+    let it = compared_recording(alloc, answers, unjudged, after, silences, stretches, first)?;
     Ok(it)
 }
 

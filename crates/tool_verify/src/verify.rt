@@ -382,6 +382,12 @@ fn tell_judged<R: AllocGlobal + Eprint>(
             "{name}: slots in which the unit may be silent: {slots}; behind each nothing is judged up to the next pause"
         );
     }
+    if it.stretches > 0 {
+        let stretches = it.stretches;
+        let _ = eprintln!(rt;
+            "{name}: stretches that leave too many ways open: {stretches}; none is judged, nor what follows it up to the next pause"
+        );
+    }
     Ok(())
 }
 
