@@ -21,6 +21,8 @@ LATE = "A c 2821\nA c 3421\nA gap\n#? A gap\nA c 3000\nA d 0001\nA gap\n"
 CUT = "A c 2821\n#? A gap\n"
 # the same, which a command on the other bus ends, before its gap or behind it
 BESIDE = "A c 2822\nA d 0001\n#? A gap\nB c 2c02\nA gap\nB gap\nslot\n"
+# more ways than are followed, and a status word
+MANY = f"{CUT * 7}{PAUSE}{ASK}#> A s 2c00\n"
 # over 1,048,576 bytes: it is read on while it is judged
 LONG = f"{ASK}#> A s 2800\n" * 40000
 # more gaps than are kept behind a status word, and a broadcast before them
@@ -70,10 +72,10 @@ RECORDINGS = with_files(
         "before": f"{BESIDE}#> B s 2c00\n",
         "behind": f"{BESIDE}#> B s 2800\n",
         "most": f"{CUT * 6}{PAUSE}{ASK}#> A s 2c00\n",
-        "more": f"{CUT * 7}{PAUSE}{ASK}#> A s 2c00\n",
-        "right": f"{CUT * 7}{PAUSE}{ASK}#> A s 2c00\n{PAUSE}{AGAIN}#> A s 2800\n",
-        "wrong": f"{CUT * 7}{PAUSE}{ASK}#> A s 2c00\n{PAUSE}{AGAIN}#> A s 2820\n",
-        "crowds": f"{CUT * 7}{PAUSE}{ASK}#> A s 2c00\n" * 2 + f"{CUT * 7}",
+        "more": MANY,
+        "right": f"{MANY}{PAUSE}{AGAIN}#> A s 2800\n",
+        "wrong": f"{MANY}{PAUSE}{AGAIN}#> A s 2820\n",
+        "crowds": f"{MANY}{PAUSE}{AGAIN}#> A s 2800\n" * 2 + f"{CUT * 7}",
         "whole": 'address = 5\nbroadcast = true\n[[rule]]\ndirection = "both"\nsubaddresses = "1-30"\ncounts = "1-32"\nto = "both"\n',
         "names": "kind,value,code,name\naddress,5,,\nmode,,2,status\n",
         **{sent.replace(" ", ""): f"# 100.5\nA c 2c61\nA gap\nslot\n#> {sent}\n"
