@@ -234,8 +234,7 @@ others_more D (Some said) (Some line) left new (Some at) next t part then n some
 
 behind : (front : List StatedEvent) (said later : Said) (fault : RecordingFault) → AreNoted front → said ≡ then_events front later → AreNoRecording later fault → AreNoRecording said fault
 behind front said later (Script fault) noted whole bad = λ memory read. whole ∙ ap (then_events front) (bad memory read)
-behind front said later TooManyWays noted whole (before, part, rest, xs, all, are, many) =
-    (front ++ before, part, rest, xs, whole ∙ ap (then_events front) all ∙ then-twice front (before ++ part) rest ∙ ap (λ l. then_events l rest) (sym (append_assoc front before part)), are, many)
+behind front said later TooManyWays noted whole bad = absurd bad
 behind front said later (Unseen n) noted whole (before, s, rest, all, are, heard, bad) =
     (front ++ before, s, rest, whole ∙ ap (then_events front) all ∙ ap Ok (sym (append_assoc front before (s ∷ rest))), noted_more front before noted are, heard, bad)
 behind front said later (Masked n) noted whole (before, s, rest, all, are, heard, bad) =

@@ -22,7 +22,7 @@ use Rattle.script_recordings.specs.declared.reading.RecordingFault.{RecordingFau
 use Rattle.script_recordings.specs.declared.reading.RecordingFault.TheVariants.{Unseen, Masked, NoWord, TooManyWays, Script}
 use Rattle.terminal_rules.specs.Reply.{is_slot}
 use Rattle.script_recordings.specs.Parts.{is_silence, heard}
-use Rattle.script_recordings.specs.Seen.{IsSeenAs, IsToldAs, StatesSent, AreToldAs, IsUnseenAs, AreRecording, StatesRecording, AreNoRecording, StatesNoRecording, AreNoted}
+use Rattle.script_recordings.specs.Seen.{IsSeenAs, IsToldAs, StatesSent, AreToldAs, IsUnseenAs, AreRecording, StatesRecording, AreNoRecording, StatesNoRecording, GivesNoWitness, AreNoted}
 use Rattle.script_recordings.specs.Messages.{InMessage, AreInMessages}
 use Rattle.script_recordings.specs.inner.Reads.{Left, AreMarkedAs, IsMarkedAs, SaysNothing, RefusesRest, ReadsPart, EndsPart, NextSeen, watch_fault_of}
 
@@ -288,15 +288,27 @@ of_script (Some script) left F is f = subst (λ (l : Left). IfSome l F) is f
 
 -- a fault of a watch by which a reading is sought
 pub settle_refused : (input : Option (List ℕ)) (ms : List Marked) (fault : WatchFault) → IfSome input (λ script. StatesRecording script (maybe_in ms)) → (fault ≡ watch.TooManyWays → HasManyWays (maybe_in ms))
-    → IfSome input (λ script. StatesNoRecording script (watch_fault_of fault))
+    → IfSome input (λ script. GivesNoWitness script (watch_fault_of fault))
 settle_refused None ms fault states has = tt
 settle_refused (Some script) ms watch.Memory states has = λ memory read. absurd (memory refl)
-settle_refused (Some script) ms watch.TooManyWays (ss, said, are) has = ([], ss, Ok [], maybe_in ms, said ∙ ap Ok (sym (append-nil ss)), are, has refl)
+settle_refused (Some script) ms watch.TooManyWays states has = (maybe_in ms, states, has refl)
+
+-- a script that states no recording
+no_witness : (script : List ℕ) (fault : RecordingFault) → StatesNoRecording script fault → GivesNoWitness script fault
+no_witness script (Script fault) bad = bad
+no_witness script (Unseen line) bad = bad
+no_witness script (Masked line) bad = bad
+no_witness script (NoWord line) bad = bad
+no_witness script TooManyWays bad = absurd bad
+
+pub unread_refused : (input : Option (List ℕ)) (fault : RecordingFault) → IfSome input (λ script. StatesNoRecording script fault) → IfSome input (λ script. GivesNoWitness script fault)
+unread_refused None fault bad = tt
+unread_refused (Some script) fault bad = no_witness script fault bad
 
 pub memory_left : (left : Left) → IfSome left (λ said. AreNoRecording said (Script Memory))
 memory_left None = tt
 memory_left (Some said) = λ memory read. absurd (memory refl)
 
-pub memory_refused : (input : Option (List ℕ)) → IfSome input (λ script. StatesNoRecording script (Script Memory))
+pub memory_refused : (input : Option (List ℕ)) → IfSome input (λ script. GivesNoWitness script (Script Memory))
 memory_refused None = tt
 memory_refused (Some script) = λ memory read. absurd (memory refl)

@@ -17,7 +17,7 @@ use Rattle.rt1553_verify.specs.declared.matching.Matching.TheVariants.{Exact, Ma
 use Rattle.rt1553_verify.specs.declared.stated.ScriptWarning.{ScriptWarning}
 use Rattle.rt1553_verify.specs.declared.stated.StatedFault.{StatedFault}
 use Rattle.rt1553_verify.specs.declared.stated.StatedFault.TheVariants.{Memory, Read}
-use Rattle.rt1553_verify.specs.Stated.{StatedEvent, is_gap, is_maybe, stated_through, then_events, stated_warning}
+use Rattle.rt1553_verify.specs.Stated.{StatedEvent, is_gap, is_maybe, stated_through, stated_warning}
 use Rattle.script_recordings.specs.declared.reading.RecordingFault.{RecordingFault}
 use Rattle.script_recordings.specs.declared.reading.RecordingFault.TheVariants.{Unseen, Masked, NoWord, TooManyWays, Script}
 use Rattle.script_recordings.specs.Parts.{is_silence, heard}
@@ -91,19 +91,22 @@ AreRecording said xs = (ss : List StatedEvent) × (said ≡ Ok ss) × AreToldAs 
 abbrev pub StatesRecording : List ℕ → List MaybeSighting → Type 0
 StatesRecording script xs = AreRecording (stated_through script) xs
 
--- Why events are none: there is a fault among them, or else the first of them that is neither a sighting nor such a slot; or gaps that may have come
--- leave room for too many ways to judge some of them, one after the other. That memory runs out and that a read fails say nothing of them.
+-- Why events are none: there is a fault among them, or else the first of them that is neither a sighting nor such a slot. That memory runs out and
+-- that a read fails say nothing of them. Gaps that may have come are no reason.
 abbrev pub AreNoRecording : Result (List StatedEvent) StatedFault → RecordingFault → Type 0
 AreNoRecording said (Script fault) = fault ≢ Memory → fault ≢ Read → said ≡ Err fault
-AreNoRecording said TooManyWays =
-    (front : List StatedEvent) × (some : List StatedEvent) × (later : Result (List StatedEvent) StatedFault) × (xs : List MaybeSighting)
-    × (said ≡ then_events (front ++ some) later) × AreToldAs (heard some) xs × HasManyWays xs
+AreNoRecording said TooManyWays = ⊥
 AreNoRecording said fault =
     (front : List StatedEvent) × (s : StatedEvent) × (rest : List StatedEvent) × (said ≡ Ok (front ++ s ∷ rest)) × AreNoted front × (is_silence s ≡ false) × IsUnseenAs s fault
 
 -- so are those of a script
 abbrev pub StatesNoRecording : List ℕ → RecordingFault → Type 0
 StatesNoRecording script fault = AreNoRecording (stated_through script) fault
+
+-- why of a script no behaviour is sought that explains it: it states no recording, or gaps in it that may have come leave room for too many ways
+abbrev pub GivesNoWitness : List ℕ → RecordingFault → Type 0
+GivesNoWitness script TooManyWays = (xs : List MaybeSighting) × StatesRecording script xs × HasManyWays xs
+GivesNoWitness script fault = StatesNoRecording script fault
 
 -- a word was sent
 abbrev pub shows_word : MaybeSighting → Bool

@@ -10,7 +10,7 @@ ghost use Rattle.recorded_terminal.specs.Judged.{IsJudgedBy};
 ghost use Rattle.recorded_terminal.specs.Marks.{HasManyWays, maybe_in, seen_in};
 ghost use Rattle.recorded_terminal.specs.declared.watch.WatchFault.TheVariants.{TooManyWays};
 ghost use Rattle.script_lines.specs.EventLine.{event_line, script_text};
-ghost use Rattle.script_recordings.specs.Seen.{StatesNoRecording};
+ghost use Rattle.script_recordings.specs.Seen.{GivesNoWitness, StatesNoRecording};
 ghost use Rattle.script_recordings.specs.Explained.{HasNoPart, IsLaterWitness, PlaysCertain, IsWitness};
 ghost use Rattle.script_recordings.specs.inner.Plays.{AnswerAlike, PlaysSeen};
 
@@ -80,7 +80,7 @@ pub fn witness<B: BufRead + Drop>(
     input: B,
 ) -> Result<Vec<u8>, RecordingFault>
     ensures plays { IfOk result (λ text. IfSome (B.remaining input) (λ script. (events : List ScriptEvent) × (text.items ≡ script_text events) × ((P : Description) → description_in normal.now ≡ reach P → IsWitness P script events))) }
-    ensures refused { IfErr result (λ fault. IfSome (B.remaining input) (λ script. StatesNoRecording script fault)) }
+    ensures refused { IfErr result (λ fault. IfSome (B.remaining input) (λ script. GivesNoWitness script fault)) }
 {
     let recording = read_recording(alloc, normal.address(), input)?;
     let settled = settle(alloc, normal, NONE_SHUT, recording.as_slice())?;
@@ -135,7 +135,7 @@ pub fn witness_since<B: BufRead + Drop>(
     input: B,
 ) -> Result<Option<Vec<u8>>, RecordingFault>
     ensures plays { IfOk result (λ it. IfSome (B.remaining input) (λ script. MatchOption it (HasNoPart (description_in normal.now) script) (λ text. (events : List ScriptEvent) × (text.items ≡ script_text events) × IsLaterWitness (description_in normal.now) script events))) }
-    ensures refused { IfErr result (λ fault. IfSome (B.remaining input) (λ script. StatesNoRecording script fault)) }
+    ensures refused { IfErr result (λ fault. IfSome (B.remaining input) (λ script. GivesNoWitness script fault)) }
 {
     let recording = read_recording(alloc, normal.address(), input)?;
     let Some(part) = fresh_part_of(alloc, normal, recording.as_slice())? else {

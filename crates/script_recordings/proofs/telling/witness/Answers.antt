@@ -8,7 +8,7 @@ use Rattle.recorded_terminal.specs.Marks.{maybe_in, HasManyWays}
 use Rattle.script_lines.specs.EventLine.{script_text}
 use Rattle.script_recordings.specs.inner.Plays.{PlaysSeen}
 use Rattle.script_recordings.specs.inner.Settled.{IsSettled}
-use Rattle.script_recordings.proofs.ReadLaws.{settle_refused}
+use Rattle.script_recordings.proofs.ReadLaws.{settle_refused, memory_refused, unread_refused}
 use Rattle.script_recordings.proofs.ExplainedLaws.{witness_by}
 use Rattle.script_recordings.proofs.telling.witness.Goals as goal
 
@@ -22,6 +22,12 @@ returns-clause-plays g c =
     (c.in_ok-script_of.ensures ∙ ap script_text c.as_slice-3.ensures.value)
     c.in_ok-events.ensures.alike
     (subst (λ (l : List Marked). (P : Description) → D ≡ reach P → PlaysSeen P l events) c.as_slice-2.ensures.value c.in_ok-events.ensures.plays)
+
+pub returns-in_err-recording-clause-refused : goal.returns-in_err-recording-clause-refused
+returns-in_err-recording-clause-refused g c =
+    let r = c.from_residual in
+    let p = err_from_is_err_and r.result r.ensures.1 in
+    rw (p.1, p.2) (unread_refused (g.B.Read.remaining c.args.input) _ c.in_err-recording.ensures.refused)
 
 pub returns-in_err-settled-clause-refused : goal.returns-in_err-settled-clause-refused
 returns-in_err-settled-clause-refused g c =

@@ -10,7 +10,7 @@ use Rattle.recorded_terminal.specs.Marks.{maybe_in, seen_in, HasManyWays}
 use Rattle.script_lines.specs.EventLine.{script_text}
 use Rattle.script_recordings.specs.inner.Settled.{IsSettled}
 use Rattle.recorded_terminal.proofs.GapLaws.{many_back}
-use Rattle.script_recordings.proofs.ReadLaws.{settle_refused, memory_refused}
+use Rattle.script_recordings.proofs.ReadLaws.{settle_refused, memory_refused, unread_refused}
 use Rattle.script_recordings.proofs.SinceLaws.{no_part, later_witness_by}
 use Rattle.script_recordings.proofs.telling.witness_since.Goals as goal
 
@@ -30,6 +30,12 @@ returns-clause-plays g c =
     (subst (λ (l : List Marked). IsSettled D (shut_history D (shut_down it.shut)) l c.in_ok-settled.settled.items) (c.behind-behind.ensures ∙ ap (drop it.before) c.as_slice-2.ensures.value) c.in_ok-settled.ensures.settled)
     (subst (λ (l : List Marked). IsBehaviourAfter D (shut_down it.shut) (seen_in l) c.in_ok-events.events.items) c.as_slice-3.ensures.value c.in_ok-events.ensures.events)
     (c.in_ok-script_of.ensures ∙ ap script_text c.as_slice-4.ensures.value)
+
+pub returns-in_err-recording-clause-refused : goal.returns-in_err-recording-clause-refused
+returns-in_err-recording-clause-refused g c =
+    let r = c.from_residual in
+    let p = err_from_is_err_and r.result r.ensures.1 in
+    rw (p.1, p.2) (unread_refused (g.B.Read.remaining c.args.input) _ c.in_err-recording.ensures.refused)
 
 pub returns-in_err-part-clause-refused : goal.returns-in_err-part-clause-refused
 returns-in_err-part-clause-refused g c =
