@@ -16,6 +16,7 @@ import xml.etree.ElementTree as xml
 
 import play
 import rules
+import run_messages
 from programs import succeed
 
 SVG, HTML = "{http://www.w3.org/2000/svg}", "{http://www.w3.org/1999/xhtml}"
@@ -249,61 +250,27 @@ def mark_of_answer(line):
     return "handed", words[2] if len(words) > 2 and re.fullmatch("[0-9a-f]{4}", words[2]) else ""
 
 
-def is_awaited(terminal, event):
-    """Whether an event is a status word that the terminal of the model waits for."""
-    message = terminal.message
-    return (event[0] == "word" and rules.is_valid(event[2]) and event[2][0] == "c" and message is not None
-            and message.phase == "waiting" and message.bus == event[1] and event[2][1] >> 11 == message.awaited)
-
-
-class Transfer:
-    """What a message has had of a transfer in which the terminal transmits, whose receiver sends its status last."""
-
-    def __init__(self, setup):
-        self.own, self.words, self.sent, self.over = setup.address, [], False, False
-
-    def is_status(self, event):
-        """Whether a word is that status: the first after the reply, with the receiver's address."""
-        commands = [word for word in self.words if word and rules.is_valid(word) and word[0] == "c"]
-        return (self.over and event[0] == "word" and len(self.words) == len(commands) == 2 and rules.is_valid(event[2]) and event[2][0] == "c"
-                and rules.receives_data(commands[0][1]) and commands[0][1] >> 11 not in (self.own, 31)
-                and rules.is_transmit(commands[1][1]) and commands[1][1] >> 11 == self.own and commands[0][1] >> 11 == event[2][1] >> 11)
-
-    def take(self, event, answer, terminal):
-        if event[0] in ("word", "noise"):
-            self.words.append(event[2] if event[0] == "word" else None)
-        self.over = self.over or bool(answer) and answer[0] in ("status", "data") and terminal.reply is None
+def is_behind(told, bus):
+    """Whether an event comes behind what is drawn of the message on a bus: with another, or from the subsystem when the terminal is done."""
+    return told.closes(bus) if told.event[0] in ("word", "noise", "gap", "slot") else bus not in told.engaged
 
 
 def look_at_run(setup, script, messages):
-    """The columns of a drawing beside the events of the script, played to the model."""
-    terminal, columns = rules.Terminal(setup), [(message, it) for message in messages for it in message[2]]
+    """The columns of a drawing beside the events of the script, and its messages beside those of the run, by the model."""
+    columns = [(message, it) for message in messages for it in message[2]]
     events = [(at, event) for at, (_, event) in enumerate(play.events_of(script), 1) if event]
     assert [it[1].line for it in columns] == [at for at, _ in events], "the columns are not those of the events, in their order"
     assert [it[0] for it in messages] == list(range(1, len(messages) + 1)), "the messages are not numbered from 1"
-    last, transfer, begun = None, Transfer(setup), None
-    for (message, column), (at, event) in zip(columns, events):
-        if message is not last:
-            assert begun is not last or last is None or not must_go_on(terminal, event, last), f"line {at}: a message is broken"
-            transfer = Transfer(setup)
-        is_status = is_awaited(terminal, event) or transfer.is_status(event)
-        before = terminal.message
-        answer = terminal.step(event)
-        # the drawn message in which the message in progress, or the one that is answered, has begun
-        begun = message if terminal.message is not None and terminal.message is not before else begun
-        transfer.take(event, answer, terminal)
-        look_at_column(column, at, event, is_status, play.answer_line(answer) if answer else "")
+    last, bus = None, None
+    for (message, column), told in zip(columns, run_messages.messages_of(setup, events)[1]):
+        is_over = bus is not None and is_behind(told, bus)
+        may_end = last is None or is_over or len(last[2]) == LONGEST
+        assert may_end if message is not last else not is_over, f"line {told.line}: a message is broken, or two are drawn as one"
+        bus = told.bus if told.part in ("first", "second") else None if is_over else bus
+        look_at_column(column, told.line, told.event, told.part == "status", play.answer_line(told.answer) if told.answer else "")
         last = message
     for name, title, columns in messages:
         assert title.startswith(f"message {name}, line {columns[0].line}" if columns else f"message {name}")
-
-
-def must_go_on(terminal, event, last):
-    """Whether an event belongs to the message before: one is in progress, and this isn't a command on the other bus."""
-    busy = terminal.message or terminal.reply
-    if busy is None or len(last[2]) >= LONGEST:
-        return False
-    return not (event[0] == "word" and event[1] != busy.bus and terminal.is_for_it(event[2]))
 
 
 def look_at_bits(column, shape):

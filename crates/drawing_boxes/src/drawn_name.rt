@@ -1,8 +1,6 @@
 //! The name of a message as it is drawn.
-use crate::course::Heard;
 use crate::escaped::in_xml;
 use crate::width::width_of;
-use bus_terminal::Event;
 use bus_word::{Command, cell_of};
 use message_names::{MessageNames, quoted, quoted_short};
 use std::alloc::{AllocError, Global};
@@ -31,7 +29,7 @@ impl DrawnName {
 }
 
 /// The name of the message of a command word, where it has one.
-fn name_of_command(
+pub fn drawn_name_of(
     alloc: Global,
     names: &MessageNames,
     word: u16,
@@ -42,21 +40,5 @@ fn name_of_command(
     match names.name_of(cell) {
         Some(name) => Ok(Some(DrawnName::of(alloc, name)?)),
         None => Ok(None),
-    }
-}
-
-/// The name of a message after an event, by that before it: a valid command for the terminal, or for all terminals, gives it its own.
-pub fn name_after(
-    alloc: Global,
-    names: &MessageNames,
-    heard: Heard,
-    before: Option<DrawnName>,
-    event: Event,
-) -> Result<Option<DrawnName>, AllocError> {
-    match event {
-        Event::Word(_, word) if word.is_for(heard.address, true) => {
-            name_of_command(alloc, names, word.bits)
-        }
-        _ => Ok(before),
     }
 }

@@ -1,9 +1,8 @@
-//! What drawings are made of: the events of a script and the messages that they belong to, texts as they stand in a page, and boxes: what
+//! What drawings are made of: the events of a script, names, texts as they stand in a page, and boxes: what
 //! they say, how wide that is, and where they stand in a row.
 #![tactic(auto)]
 
 mod caption;
-mod course;
 mod drawn_name;
 mod escaped;
 mod fault;
@@ -12,8 +11,7 @@ mod numbered;
 mod width;
 
 pub use caption::{Caption, Digits, InOneLine, More, Rest, What};
-pub use course::{Course, Heard};
-pub use drawn_name::{DrawnName, name_after};
+pub use drawn_name::{DrawnName, drawn_name_of};
 pub use escaped::{in_xml, push_css_text, push_escaped};
 pub use fault::DrawFault;
 pub use frame::{Frame, LANES_FROM, LANES_WIDTH, Lane, Lanes, MARGIN};

@@ -202,14 +202,6 @@ impl Column {
         }
     }
 
-    /// Whether the terminal sends a word at the event.
-    pub fn is_sent(&self) -> bool {
-        matches!(
-            self.mark,
-            Mark::Box(_, Caption::Status(_) | Caption::SentData(_))
-        )
-    }
-
     /// Whether it has a box in the subsystem's lane.
     pub fn is_in_subsystem(&self) -> bool {
         self.handed.is_some() || matches!(self.mark, Mark::Box(Lane::Subsystem, _))

@@ -5,8 +5,8 @@ ghost use Rattle.rt1553_draw.specs.inner.Marked.{IsMarkedBy};
 
 use crate::column::Column;
 use crate::expected::StatedAnswer;
-use bus_terminal::Event;
-use drawing_boxes::{Caption, Course, DrawnName, Heard, InOneLine, Numbered, name_after, width_of};
+use bus_word::Bus;
+use drawing_boxes::{Caption, DrawnName, InOneLine, Numbered, drawn_name_of, width_of};
 use message_names::MessageNames;
 use std::alloc::{AllocError, Global};
 use std::fmt;
@@ -16,7 +16,8 @@ use std::fmt;
 pub struct DrawnMessage {
     /// Its number, from 1.
     pub number: u32,
-    pub course: Course,
+    /// The bus of its commands, where one came.
+    pub bus: Option<Bus>,
     pub columns: Vec<Column>,
     /// Its name, where there are names and it has one.
     pub name: Option<DrawnName>,
@@ -57,32 +58,35 @@ impl fmt::Display for Heading {
 }
 
 impl DrawnMessage {
-    /// The message of this number, of which nothing has come yet.
-    pub fn new(alloc: Global, number: u32) -> DrawnMessage
+    /// The message of this number, of which nothing is drawn yet, and of which a command came on this bus.
+    pub fn new(alloc: Global, number: u32, bus: Option<Bus>) -> DrawnMessage
         ensures { drawn_of result ≡ [] }
     {
         DrawnMessage {
             number,
-            course: Course::BEGIN,
+            bus,
             columns: Vec::new(alloc),
             name: None,
         }
     }
 
-    /// Gives it the name that it has after an event more, where there are names.
+    /// Notes that a command of it came on this bus.
+    pub fn go_on(&mut self, bus: Bus)
+        ensures { drawn_of self.new ≡ drawn_of self.old }
+    {
+        self.bus = Some(bus);
+    }
+
+    /// Gives it the name that this command word has, if it has one.
     pub fn take_name(
         &mut self,
         alloc: Global,
-        names: Option<&MessageNames>,
-        heard: Heard,
-        event: Event,
+        names: &MessageNames,
+        command: u16,
     ) -> Result<(), AllocError>
         ensures { OnOk result (drawn_of self.new ≡ drawn_of self.old) }
     {
-        if let Some(names) = names {
-            let before = self.name.take();
-            self.name = name_after(alloc, names, heard, before, event)?;
-        }
+        self.name = drawn_name_of(alloc, names, command)?;
         Ok(())
     }
 
@@ -101,14 +105,14 @@ impl DrawnMessage {
     {
         let DrawnMessage {
             number,
-            course,
+            bus,
             columns,
             name,
         } = self;
         let columns = marked_columns(alloc, columns, stated)?;
         Ok(DrawnMessage {
             number,
-            course,
+            bus,
             columns,
             name,
         })

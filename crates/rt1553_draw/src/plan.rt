@@ -8,11 +8,19 @@ ghost use Rattle.rt1553_draw.specs.inner.Drawn.{drawn_of, drawn_in, wanted, AreW
 use crate::column::Column;
 use crate::part::DrawnMessage;
 use crate::shown_line::{DrawnScript, ShownLine};
-use bus_legal::{Legality, Normal};
+use bus_legal::Normal;
 use bus_terminal::{Event, Terminal};
-use drawing_boxes::{Course, DrawFault, Heard, Numbered, events_to_draw, numbered_events};
+use bus_word::{Bus, Raw};
+use drawing_boxes::{DrawFault, Numbered, events_to_draw, numbered_events};
 use message_names::MessageNames;
 use std::alloc::{AllocError, Global};
+use terminal_messages::{
+    ClosedMessages, KeptMessage, MessageFold, MessagePart, OwnAddress, SeenEvent, see_event,
+};
+use terminal_state::same_bus;
+
+/// How many events are drawn as one message at most: more than any of the standard has.
+const MAX_MESSAGE: usize = 64;
 
 /// Keeps a message, if it is wanted: one with an event in one of these lines, or where there are no lines any.
 fn keep_wanted(
@@ -32,62 +40,143 @@ fn keep_wanted(
     Ok(())
 }
 
-/// Puts the message away that is over where this event is none of it, and begins another.
+/// A terminal, and the messages of its run.
+#[derive(Drop)]
+struct DrawnRun {
+    terminal: Terminal<Normal>,
+    messages: MessageFold,
+    /// Its address, 0 to 30.
+    address: u8,
+}
+
+/// An event that was played.
+#[derive(Drop)]
+struct DrawnEvent {
+    seen: SeenEvent,
+    /// What it is to the messages of the run.
+    part: MessagePart,
+    /// The messages that are over with it.
+    closed: ClosedMessages,
+}
+
+impl DrawnRun {
+    /// A run that begins at power-up.
+    fn power_up(normal: &Normal) -> DrawnRun {
+        let setup = normal.setup();
+        let own = OwnAddress {
+            address: setup.address,
+            broadcast: setup.broadcast,
+        };
+        DrawnRun {
+            terminal: Terminal::power_up(setup, *normal),
+            messages: MessageFold::none(own),
+            address: setup.address,
+        }
+    }
+
+    /// Plays an event.
+    fn play(&mut self, of: Numbered) -> DrawnEvent {
+        let seen = see_event(&mut self.terminal, &of.event, of.line);
+        let part = self.messages.part(&seen);
+        let closed = self.messages.step(&seen);
+        DrawnEvent { seen, part, closed }
+    }
+}
+
+/// Whether there is a message, which was on this bus.
+fn was_on(message: &Option<KeptMessage>, bus: Bus) -> bool {
+    match message {
+        Some(message) => same_bus(message.state.bus, bus),
+        None => false,
+    }
+}
+
+impl DrawnEvent {
+    /// Whether the message on this bus is over with it.
+    fn closes_on(&self, bus: Bus) -> bool {
+        was_on(&self.closed.first, bus) || was_on(&self.closed.second, bus)
+    }
+
+    /// Whether it comes behind what is drawn of the message on this bus: with another message, or from the subsystem, when the terminal is
+    /// neither in a message there nor replies.
+    fn is_behind(&self, bus: Bus) -> bool {
+        match self.seen.event {
+            Event::Word(_, _) | Event::Noise(_) | Event::Gap(_) | Event::Slot => {
+                self.closes_on(bus)
+            }
+            _ => !self.seen.engaged.on(bus),
+        }
+    }
+
+    /// The command of a message that it is, with its bus.
+    fn command(&self) -> Option<(Bus, Raw)> {
+        match self.seen.event {
+            Event::Word(bus, word)
+                if self.part.is_first_command() || self.part.is_second_command() => Some((
+                bus, word,
+            )),
+            _ => None,
+        }
+    }
+}
+
+/// Puts the message away that is over where this event is none of it, and begins another. One of 64 events goes on as another, too.
 fn begin_another(
     alloc: Global,
     parts: &mut Vec<DrawnMessage>,
     part: DrawnMessage,
     lines: Option<&[u64]>,
-    heard: Heard,
-    event: Event,
+    played: &DrawnEvent,
 ) -> Result<DrawnMessage, AllocError>
     ensures { IfOk result (EndsMessages (option_map (λ ls. ls.now) lines.entry) parts.old.items parts.new.items part) }
 {
-    if !part.course.ends_before(heard, event) {
+    let is_over = match part.bus {
+        Some(bus) => played.is_behind(bus),
+        None => false,
+    };
+    if !is_over && part.columns.len() < MAX_MESSAGE {
         return Ok(part);
     }
     let number = part.number.saturating_add(1);
+    let bus = if is_over { None } else { part.bus };
     keep_wanted(parts, part, lines)?;
-    Ok(DrawnMessage::new(alloc, number))
+    Ok(DrawnMessage::new(alloc, number, bus))
 }
 
-/// Plays an event, and gives its column.
-fn play_event<L: Legality>(
+/// Adds the column of an event that was played to a message.
+fn add_event(
     alloc: Global,
-    terminal: &mut Terminal<L>,
-    course: Course,
-    of: Numbered,
-    line: ShownLine,
-) -> Result<Column, AllocError>
-    ensures of { IfOk result (λ column. column.of ≡ of) }
-    ensures line { IfOk result (λ column. column.line ≡ line) }
-{
-    let is_status = match of.event {
-        Event::Word(bus, word) => course.is_status(terminal, bus, word),
-        _ => false,
-    };
-    let answer = terminal.step(of.event);
-    Column::of(alloc, of, line, is_status, &answer)
-}
-
-/// Plays an event, and adds its column to a message.
-fn add_event<L: Legality>(
-    alloc: Global,
-    terminal: &mut Terminal<L>,
-    heard: Heard,
     part: &mut DrawnMessage,
     of: Numbered,
     line: ShownLine,
+    played: &DrawnEvent,
 ) -> Result<(), AllocError>
     ensures { OnOk result (drawn_of part.new ≡ drawn_of part.old ++ of ∷ []) }
 {
-    let event = of.event;
-    let course = part.course;
-    let column = play_event(alloc, terminal, course, of, line)?;
-    let sent = column.is_sent();
-    part.add(column)?;
-    part.course = course.with(terminal, heard, event, sent);
-    Ok(())
+    let answer = played.seen.answer.lent();
+    let column = Column::of(alloc, of, line, played.part.is_status(), &answer)?;
+    part.add(column)
+}
+
+/// Gives a message what it has by an event that is a command of it: its bus, and a name by a command that speaks to the terminal of this
+/// address, or to all.
+fn take_command(
+    alloc: Global,
+    part: &mut DrawnMessage,
+    names: Option<&MessageNames>,
+    address: u8,
+    played: &DrawnEvent,
+) -> Result<(), AllocError>
+    ensures { OnOk result (drawn_of part.new ≡ drawn_of part.old) }
+{
+    let Some((bus, word)) = played.command() else {
+        return Ok(());
+    };
+    part.go_on(bus);
+    match names {
+        Some(names) if word.is_for(address, true) => part.take_name(alloc, names, word.bits),
+        _ => Ok(()),
+    }
 }
 
 /// Plays events from power-up, and gives the messages of them that are wanted. `sources` are the lines by which they are shown.
@@ -101,20 +190,16 @@ fn messages_of(
 ) -> Result<Vec<DrawnMessage>, AllocError>
     ensures { IfOk result (λ parts. AreWanted (option_map (λ ls. ls.now) lines.entry) events.now parts.items) }
 {
-    let setup = normal.setup();
-    let heard = Heard {
-        address: setup.address,
-        broadcast: setup.broadcast,
-    };
-    let mut terminal = Terminal::power_up(setup, *normal);
+    let mut run = DrawnRun::power_up(normal);
     let mut parts = Vec::new(alloc);
-    let mut part = DrawnMessage::new(alloc, 1);
+    let mut part = DrawnMessage::new(alloc, 1, None);
     let mut shown = ShownLine::NONE;
     for of in events {
         shown = shown.next(sources, of.line);
-        part = begin_another(alloc, &mut parts, part, lines, heard, of.event)?;
-        add_event(alloc, &mut terminal, heard, &mut part, *of, shown)?;
-        part.take_name(alloc, names, heard, of.event)?;
+        let played = run.play(*of);
+        part = begin_another(alloc, &mut parts, part, lines, &played)?;
+        add_event(alloc, &mut part, *of, shown, &played)?;
+        take_command(alloc, &mut part, names, run.address, &played)?;
     }
     keep_wanted(&mut parts, part, lines)?;
     Ok(parts)

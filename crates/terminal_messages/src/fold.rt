@@ -283,8 +283,8 @@ impl MessageFold {
         }
     }
 
-    /// The part of an event.
-    fn part(&self, seen: &SeenEvent) -> MessagePart
+    /// What an event that comes next is to the messages.
+    pub fn part(&self, seen: &SeenEvent) -> MessagePart
         ensures { (ds : List ℕ) → result ≡ part_by seen.now.event (facts_in seen.now ds) seen.now.is_ignored (fold_view self.now) }
     {
         match seen.event {

@@ -12,7 +12,7 @@ loop-of-preserved c =
     grind (arith, common_steps, c.of-item.is, c.loop-of-test.true) in
     rw so_far
     (one_more (option_map (λ ls. ls.now) c.args.lines) (take c.loop-of.of-index c.args.events.now) c.of-item.result c.loop-of.parts.items c.begin_another.new.parts.items
-    c.loop-of.part c.in_ok-part.part c.take_name.new.self c.loop-of.invariant c.in_ok-part.ensures (c.in_ok-take_name.ensures ∙ c.in_ok-add_event.ensures))
+    c.loop-of.part c.in_ok-part.part c.take_command.new.part c.loop-of.invariant c.in_ok-part.ensures (c.in_ok-take_command.ensures ∙ c.in_ok-add_event.ensures))
 
 pub returns : goal.returns
 returns c =
