@@ -20,6 +20,7 @@ use Rattle.rt1553_report.specs.declared.verdict.ScriptVerdict.{ScriptVerdict}
 use Rattle.rt1553_report.specs.declared.verdict.ScriptVerdict.TheVariants.{Failed}
 use Rattle.rt1553_tool_args.specs.declared.command.ScriptKind.{ScriptKind}
 use Rattle.rt1553_tool_args.specs.declared.command.ScriptKind.TheVariants.{Test, BusTest, Recording, LaterRecording}
+use Rattle.tool_verify.specs.declared.compared.Compared.{Compared}
 use Rattle.tool_verify.specs.declared.compared.ScriptFault.{ScriptFault}
 use Rattle.tool_verify.specs.declared.compared.ScriptFault.TheVariants as script
 use Rattle.rt1553_verify.specs.declared.stated.StatedFault.{StatedFault}
@@ -87,39 +88,42 @@ unjudged_since (suc n) after warning = Some TooManyWays
 
 -- The verdict on a recording, for the terminal of P: it fails exactly if nothing explains one of its parts, as far as that is judged. What is explained
 -- passes, if a word was sent in what is judged, and too many ways are left in no stretch of it; else it is not judged.
-pub record SaysRecorded (P : Description) (script : List ℕ) (verdict : ScriptVerdict) (answers silences : ℕ) : Type 0 where
+pub record SaysRecorded (P : Description) (script : List ℕ) (verdict : ScriptVerdict) (answers silences stretches : ℕ) : Type 0 where
   pub told : Option ToldAnswer
   pub warning : Option ScriptWarning
-  pub stretches : ℕ
   pub judged : IsJudgedFrom P (reach P) script told warning answers silences stretches
   pub is : verdict ≡ verdict_of (is_none told) (unjudged_recorded stretches warning)
 
 -- The verdict on a recording that began at any time, for the terminal of P, by what of P can be reached. It fails exactly if what is judged of one of
 -- its parts is not explained, whatever came before; then nothing explains that, whenever it began. Without such a part, or a word
 -- that was sent in it, and where too many ways are left in a stretch, it is not judged.
-pub record SaysSince (P : Description) (script : List ℕ) (verdict : ScriptVerdict) (answers silences : ℕ) : Type 0 where
-  pub after : Option ℕ
+pub record SaysSince (P : Description) (script : List ℕ) (verdict : ScriptVerdict) (answers silences stretches : ℕ) (after : Option ℕ) : Type 0 where
   pub told : Option ToldAnswer
   pub warning : Option ScriptWarning
-  pub stretches : ℕ
   pub judged : IsJudgedSince (reach P) script after told warning answers silences stretches
   pub is : verdict ≡ verdict_of (is_none told) (unjudged_since stretches after warning)
   pub never : verdict ≡ Failed → NothingExplains P script
 
 -- It is the verdict for the terminal of P: on a test, by whether nothing is told of it, or of what the bus alone shows of it, and whether
--- it states an answer; and on a recording, by whether some behaviour of the subsystem explains it. So many answers are stated, and in so many slots the
--- unit may have been silent.
-abbrev pub SaysBy : ScriptKind → Description → List ℕ → ScriptVerdict → ℕ → ℕ → Type 0
-SaysBy Test P script verdict answers silences =
-    (verdict ≡ verdict_of (tells_nothing (verified P script)) (unjudged_test (stated_in script))) × TestStates script answers × (silences ≡ 0)
-SaysBy BusTest P script verdict answers silences =
-    (verdict ≡ verdict_of (tells_nothing (verified_on_bus P script)) (unjudged_test (stated_in script))) × TestStates script answers × (silences ≡ 0)
-SaysBy Recording P script verdict answers silences = SaysRecorded P script verdict answers silences
-SaysBy LaterRecording P script verdict answers silences = SaysSince P script verdict answers silences
+-- it states an answer; and on a recording, by whether some behaviour of the subsystem explains it. So many answers are stated; in so many slots the unit
+-- may have been silent, and in so many stretches too many ways are left; one that began at any time is judged after this line.
+abbrev pub SaysBy : ScriptKind → Description → List ℕ → ScriptVerdict → ℕ → ℕ → ℕ → Option ℕ → Type 0
+SaysBy Test P script verdict answers silences stretches after =
+    (verdict ≡ verdict_of (tells_nothing (verified P script)) (unjudged_test (stated_in script))) × TestStates script answers × (silences ≡ 0) × (stretches ≡ 0) × (after ≡ None)
+SaysBy BusTest P script verdict answers silences stretches after =
+    (verdict ≡ verdict_of (tells_nothing (verified_on_bus P script)) (unjudged_test (stated_in script))) × TestStates script answers × (silences ≡ 0) × (stretches ≡ 0) × (after ≡ None)
+SaysBy Recording P script verdict answers silences stretches after = SaysRecorded P script verdict answers silences stretches × (after ≡ None)
+SaysBy LaterRecording P script verdict answers silences stretches after = SaysSince P script verdict answers silences stretches after
 
--- it is the verdict for the terminal of which this can be reached
+-- what was compared is the verdict for the terminal of which this can be reached
+abbrev pub IsCompared : ScriptKind → Parts → List ℕ → Compared → Type 0
+IsCompared kind value script it =
+    (P : Description) → description_in value ≡ reach P → SaysBy kind P script (verdict_of (length it.wrong.items == 0) it.unjudged) it.answers it.silences it.stretches it.after
+
+-- so is this verdict, without what is told of it on the standard error
 abbrev pub SaysOf : ScriptKind → Parts → List ℕ → ScriptVerdict → ℕ → ℕ → Type 0
-SaysOf kind value script verdict answers silences = (P : Description) → description_in value ≡ reach P → SaysBy kind P script verdict answers silences
+SaysOf kind value script verdict answers silences =
+    (stretches : ℕ) × (after : Option ℕ) × ((P : Description) → description_in value ≡ reach P → SaysBy kind P script verdict answers silences stretches after)
 
 -- an outcome has such a verdict, and tells so many answers
 abbrev pub HasVerdict : ScriptKind → Parts → List ℕ → ScriptOutcome → Type 0

@@ -4,7 +4,7 @@ ghost use Rattle.bus_legal.specs.Parts.{description_in};
 ghost use Rattle.rt1553_verify.specs.Stated.{shown};
 ghost use Rattle.rt1553_verify.specs.declared.stated.StatedFault.TheVariants.{Memory};
 ghost use Rattle.rt1553_report.specs.Verdict.{verdict_of};
-ghost use Rattle.tool_verify.specs.Passing.{IsExplaining, SaysOf, is_later, recording_kind, scoped, test_kind, unjudged_by, unjudged_recorded, unjudged_since, unjudged_test};
+ghost use Rattle.tool_verify.specs.Passing.{IsCompared, IsExplaining, is_later, recording_kind, scoped, test_kind, unjudged_by, unjudged_recorded, unjudged_since, unjudged_test};
 ghost use Rattle.tool_verify.specs.declared.compared.ScriptFault.TheVariants.{Stated, Recording};
 
 use bus_legal::Normal;
@@ -140,7 +140,7 @@ fn compare_test(
     script: &[u8],
     on_bus: bool,
 ) -> Result<Compared, ScriptFault>
-    ensures { IfOk result (λ it. SaysOf (test_kind on_bus) normal.now script.now (verdict_of (length it.wrong.items == 0) it.unjudged) it.answers it.silences) }
+    ensures { IfOk result (IsCompared (test_kind on_bus) normal.now script.now) }
 {
     let stated = read_stated(alloc, script)?;
     let answers = answers_in(stated.as_slice());
@@ -171,7 +171,7 @@ fn compared_recording(
 ) -> Result<Compared, AllocError>
     ensures told { IfOk result (λ it. (length it.wrong.items == 0) ≡ is_none first) }
     ensures unjudged { IfOk result (λ it. it.unjudged ≡ unjudged) }
-    ensures counts { IfOk result (λ it. (it.answers ≡ answers) × (it.silences ≡ silences)) }
+    ensures counts { IfOk result (λ it. (it.answers ≡ answers) × (it.silences ≡ silences) × (it.stretches ≡ stretches) × (it.after ≡ after)) }
 {
     let (mut wrong, mut commands) = (Vec::new(alloc), Vec::new(alloc));
     if let Some(UnexplainedLine { answer, command }) = first {
@@ -195,7 +195,7 @@ pub fn compare_recording<B: BufRead + Drop>(
     normal: &Normal,
     input: B,
 ) -> Result<Compared, ScriptFault>
-    ensures { IfOk result (λ it. IfSome (B.remaining input) (λ script. SaysOf ScriptKind.Recording normal.now script (verdict_of (length it.wrong.items == 0) it.unjudged) it.answers it.silences)) }
+    ensures { IfOk result (λ it. IfSome (B.remaining input) (λ script. IsCompared ScriptKind.Recording normal.now script it)) }
 {
     let Explained {
         answers,
@@ -215,7 +215,7 @@ pub fn compare_later<B: BufRead + Drop>(
     normal: &Normal,
     input: B,
 ) -> Result<Compared, ScriptFault>
-    ensures { IfOk result (λ it. IfSome (B.remaining input) (λ script. SaysOf ScriptKind.LaterRecording normal.now script (verdict_of (length it.wrong.items == 0) it.unjudged) it.answers it.silences)) }
+    ensures { IfOk result (λ it. IfSome (B.remaining input) (λ script. IsCompared ScriptKind.LaterRecording normal.now script it)) }
 {
     let ExplainedSince {
         answers,
@@ -237,7 +237,7 @@ pub fn compare_script(
     script: &[u8],
     kind: ScriptKind,
 ) -> Result<Compared, ScriptFault>
-    ensures { IfOk result (λ it. SaysOf kind normal.now script.now (verdict_of (length it.wrong.items == 0) it.unjudged) it.answers it.silences) }
+    ensures { IfOk result (IsCompared kind normal.now script.now) }
 {
     match kind {
         ScriptKind::Test => compare_test(alloc, normal, script, false),
@@ -254,7 +254,7 @@ fn compare_read<B: BufRead + Drop>(
     input: B,
     is_later: bool,
 ) -> Result<Compared, ScriptFault>
-    ensures { IfOk result (λ it. IfSome (B.remaining input) (λ script. SaysOf (recording_kind is_later) normal.now script (verdict_of (length it.wrong.items == 0) it.unjudged) it.answers it.silences)) }
+    ensures { IfOk result (λ it. IfSome (B.remaining input) (λ script. IsCompared (recording_kind is_later) normal.now script it)) }
 {
     if is_later {
         compare_later(alloc, normal, input)
@@ -271,8 +271,8 @@ pub fn compare_open<F: Read + Drop>(
     rest: Option<F>,
     kind: ScriptKind,
 ) -> Result<Compared, ScriptFault>
-    ensures whole { IfOk result (λ it. rest ≡ None → SaysOf kind normal.now script.now (verdict_of (length it.wrong.items == 0) it.unjudged) it.answers it.silences) }
-    ensures on { IfOk result (λ it. IfSome rest (λ file. IfSome (F.remaining file) (λ more. SaysOf (recording_kind (is_later kind)) normal.now (script.now ++ more) (verdict_of (length it.wrong.items == 0) it.unjudged) it.answers it.silences))) }
+    ensures whole { IfOk result (λ it. rest ≡ None → IsCompared kind normal.now script.now it) }
+    ensures on { IfOk result (λ it. IfSome rest (λ file. IfSome (F.remaining file) (λ more. IsCompared (recording_kind (is_later kind)) normal.now (script.now ++ more) it))) }
 {
     let Some(rest) = rest else {
         return compare_script(alloc, normal, script, kind);
