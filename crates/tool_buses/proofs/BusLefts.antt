@@ -1,8 +1,10 @@
 -- Scripts are read and cut, and buses are put together, one step after the other.
-use Rattle.std.proofs.Common.{◌≡◌, ◌≢◌, ◌∙◌, ◌<◌, ◌≤◌, ◌+◌, ◌==◌, ◌&&◌, ◌||◌, ℕ, suc, Bool, true, false, if◌then◌else◌, Option, Some, None, Result, Ok, Err, is_ok, is_some, OnOk, IfOk, IfNone, List, [], ◌∷◌, ◌++◌, length, take, map, flat_map, filter, get_or, arith, refl, ap, sym, subst, append_assoc, append-nil, eq-eqb}
+use Rattle.std.proofs.Common.{◌≡◌, ◌≢◌, ◌∙◌, ◌<◌, ◌≤◌, ◌+◌, ◌==◌, ◌&&◌, ◌||◌, ℕ, suc, Bool, true, false, if◌then◌else◌, Option, Some, None, Result, Ok, Err, is_ok, is_some, not, OnOk, IfOk, IfNone, List, [], ◌∷◌, ◌++◌, length, take, map, flat_map, filter, get_or, arith, refl, ap, sym, subst, append_assoc, append-nil, eq-eqb}
 use Rattle.std.proofs.lemmas.List.{map-append, take_more}
+use Rattle.std.proofs.lemmas.Bool.{eqb-true}
 use Rattle.std.proofs.lemmas.List.Concat.{flat_map-append}
 use Rattle.bus_legal.specs.Description.{Description}
+use Rattle.std.specs.Option.{option_map}
 use Rattle.std.specs.Result.{result_err}
 use Rattle.bus_legal.specs.declared.setup.Setup.{Setup}
 use Rattle.bus_legal.specs.Description.{described}
@@ -10,7 +12,8 @@ use Rattle.bus_legal.specs.Tables.{tables_say}
 use Rattle.bus_legal.specs.Parts.{Parts, parts_of, description_in}
 use Rattle.bus_legal.proofs.NormalLaws.{set_up_normal}
 use Rattle.terminal_bus.specs.declared.bus.NotAdded.{NotAdded}
-use Rattle.terminal_rules.specs.LookBack.{some}
+use Rattle.terminal_rules.specs.LookBack.{some, keep}
+use Rattle.tool_buses.specs.EndsWell.{message_put, reasons_alone, reasons_of_part}
 use Rattle.terminal_bus.specs.declared.event.BusEvent.{BusEvent}
 use Rattle.terminal_bus.specs.Members.{Member, member_of, powered_up}
 use Rattle.std.proofs.lemmas.Option.{none-some}
@@ -25,10 +28,12 @@ use Rattle.script_terminals.specs.declared.playing.BusScriptFault.{BusScriptFaul
 use Rattle.script_terminals.specs.BusReading.{Said, BusReading, adds_said, then_says, bus_reading, said_in}
 use Rattle.tool_buses.specs.declared.reading.SaidEvent.{SaidEvent}
 use Rattle.tool_buses.specs.declared.parts.ScriptPart.{ScriptPart}
-use Rattle.tool_buses.specs.Cut.{said_shown, said_on_line, said_for, said_in_file, said_in_part, NeighboursDiffer, part_left, IsCutScript, JudgesOrder}
+use Rattle.tool_buses.specs.Cut.{said_shown, said_on_line, said_for, said_in_file, said_in_part, NeighboursDiffer, part_left, IsCutScript, told_alone, JudgesOrder}
 use Rattle.bus_reports.specs.declared.judged.PartLeft.{PartLeft}
+use Rattle.bus_reports.specs.declared.load.PutMessage.{PutMessage}
+use Rattle.bus_reports.specs.declared.judged.JudgedMessage.{JudgedMessage}
 use Rattle.bus_reports.specs.declared.judged.Judgement.{Judgement}
-use Rattle.bus_reports.specs.Outcomes.{told_among, leaves_something}
+use Rattle.bus_reports.specs.Outcomes.{has_trouble, told_among, leaves_something}
 use Rattle.script_terminals.proofs.PlayLaws.{none_left}
 use Rattle.terminal_schedules.specs.declared.left.LeftAt.{LeftAt}
 use Rattle.terminal_schedules.specs.Left.{left_alone, IsClearBus}
@@ -225,6 +230,45 @@ rest_more xs more x y d i is within at =
     let one : i + 1 ≡ suc i = omega arith in
     (λ j. take (two j) (is j)) ∙ (ap (λ l. x ∷ l) (take_more more i d within ∙ ap (λ z. take i more ++ z ∷ []) (sym at)) ∙ (λ j. take (sym one j) (sym is j) ++ y ∷ []))
 
+-- ---- messages are judged alone
+
+keep_some : {X Y : Type 0} (f : X → Option Y) (xs : List X) (x : X) (y : Y) → f x ≡ Some y → keep f (xs ++ x ∷ []) ≡ keep f xs ++ y ∷ []
+keep_some f [] x y is = ap (λ o. elim o [ None ↦ [] | Some z ↦ z ∷ [] ]) is
+keep_some {Y} f (z ∷ xs) x y is = by_case (f z) (keep_some f xs x y is)
+  where
+    by_case : (o : Option Y) → keep f (xs ++ x ∷ []) ≡ keep f xs ++ y ∷ [] →
+        elim o [ None ↦ keep f (xs ++ x ∷ []) | Some w ↦ w ∷ keep f (xs ++ x ∷ []) ] ≡ elim o [ None ↦ keep f xs | Some w ↦ w ∷ keep f xs ] ++ y ∷ []
+    by_case None e = e
+    by_case (Some w) e = ap (λ l. w ∷ l) e
+
+keep_none : {X Y : Type 0} (f : X → Option Y) (xs : List X) (x : X) → f x ≡ None → keep f (xs ++ x ∷ []) ≡ keep f xs
+keep_none f [] x is = ap (λ o. elim o [ None ↦ [] | Some z ↦ z ∷ [] ]) is
+keep_none {Y} f (z ∷ xs) x is = by_case (f z) (keep_none f xs x is)
+  where
+    by_case : (o : Option Y) → keep f (xs ++ x ∷ []) ≡ keep f xs →
+        ◌≡◌ {A = List Y} (elim o [ None ↦ keep f (xs ++ x ∷ []) | Some w ↦ w ∷ keep f (xs ++ x ∷ []) ]) (elim o [ None ↦ keep f xs | Some w ↦ w ∷ keep f xs ])
+    by_case None e = e
+    by_case (Some w) e = ap (λ l. w ∷ l) e
+
+module _ (vs : List Parts) (parts : List ScriptPart) (i : ℕ) (part : ScriptPart) (within : i < length parts) (at : part ≡ get_or parts i part) where
+  one_part : take i parts ++ part ∷ [] ≡ take (i + 1) parts
+  one_part = sym (take_more parts i part within ∙ ap (λ y. take i parts ++ y ∷ []) (sym at))
+
+  -- a part that is a message
+  pub told_one : (judged : List JudgedMessage) (it : JudgedMessage) (put : PutMessage) → message_put part.events.items ≡ Some put → told_alone it ≡ reasons_alone put vs part.events.items →
+      map told_alone judged ≡ keep (reasons_of_part vs) (take i parts) → map told_alone (judged ++ it ∷ []) ≡ keep (reasons_of_part vs) (take (i + 1) parts)
+  told_one judged it put is told before =
+      map-append told_alone judged (it ∷ [])
+      ∙ ((λ j. before j ++ told j ∷ [])
+      ∙ (sym (keep_some (reasons_of_part vs) (take i parts) part (reasons_alone put vs part.events.items) (ap (option_map (λ put. reasons_alone put vs part.events.items)) is))
+      ∙ ap (keep (reasons_of_part vs)) one_part))
+
+  -- one that is none
+  pub told_other : (judged : List JudgedMessage) → message_put part.events.items ≡ None → map told_alone judged ≡ keep (reasons_of_part vs) (take i parts) → map told_alone judged ≡ keep (reasons_of_part vs) (take (i + 1) parts)
+  told_other judged is before =
+      before
+      ∙ (sym (keep_none (reasons_of_part vs) (take i parts) part (ap (option_map (λ put. reasons_alone put vs part.events.items)) is)) ∙ ap (keep (reasons_of_part vs)) one_part)
+
 -- ---- every order
 
 no_length : {X : Type 0} (x : X) (xs : List X) → length (x ∷ xs) == 0 ≡ true → ⊥
@@ -252,14 +296,33 @@ and_second : (a b : Bool) → a && b ≡ true → b ≡ true
 and_second true b e = e
 and_second false b e = cc e
 
-pub judges_order : (Ps : List Description) (source : ℕ → ℕ) (script : List ℕ) (lefts : List PartLeft) (judged : Judgement) → judged.lefts.items ≡ lefts → AddressesDiffer Ps → Each (λ P. P.address ≤ 30) Ps →
-    IsCutScript Ps source script lefts → JudgesOrder Ps source script judged
-judges_order Ps source script lefts judged is differ low cut =
-    let told : IsCutScript Ps source script judged.lefts.items = subst (IsCutScript Ps source script) (sym is) cut in
+and_first : (a b : Bool) → a && b ≡ true → a ≡ true
+and_first true b e = refl
+and_first false b e = cc e
+
+-- no reason is told of messages of which none is told
+no_trouble : (ms : List JudgedMessage) → length (filter has_trouble ms) == 0 ≡ true → Each (λ n. n ≡ 0) (map told_alone ms)
+no_trouble [] e = tt
+no_trouble (m ∷ ms) e = by_tests (length m.alone.items == 0) (length m.in_run.items == 0) refl (no_trouble ms) e
+  where
+    by_tests : (a b : Bool) → length m.alone.items == 0 ≡ a → (length (filter has_trouble ms) == 0 ≡ true → Each (λ n. n ≡ 0) (map told_alone ms)) →
+        length (if not (a && b) then m ∷ filter has_trouble ms else filter has_trouble ms) == 0 ≡ true → (length m.alone.items ≡ 0) × Each (λ n. n ≡ 0) (map told_alone ms)
+    by_tests true true is rest e = (eqb-true (length m.alone.items) 0 is, rest e)
+    by_tests true false is rest e = absurd (no_length m (filter has_trouble ms) e)
+    by_tests false b is rest e = absurd (no_length m (filter has_trouble ms) e)
+
+pub judges_order : (vs : List Parts) (bus : TerminalBus Parts) (source : ℕ → ℕ) (script : List ℕ) (parts : List ScriptPart) (lefts : List PartLeft) (judged : Judgement) → judged.lefts.items ≡ lefts →
+    IsPowered (map description_in vs) bus → IsCutScript (map description_in vs) source script parts lefts → map told_alone judged.messages.items ≡ keep (reasons_of_part vs) parts → JudgesOrder vs source script judged
+judges_order vs bus source script parts lefts judged is p cut alone =
+    let Ps : List Description = map description_in vs in
+    let told : IsCutScript Ps source script parts judged.lefts.items = subst (IsCutScript Ps source script parts) (sym is) cut in
     record {
+      parts = parts;
       told = told;
-      order = λ every. every_order_law Ps (map (λ part. part.events.items) told.parts) differ low
-          (all_none Ps told.parts judged.lefts.items told.left (and_second (told_among judged == 0) (length (filter leaves_something judged.lefts.items) == 0) every));
+      alone = alone;
+      well = λ every. subst (Each (λ n. n ≡ 0)) alone (no_trouble judged.messages.items (and_first (told_among judged == 0) (length (filter leaves_something judged.lefts.items) == 0) every));
+      order = λ every. every_order_law Ps (map (λ part. part.events.items) parts) p.differ p.low
+          (all_none Ps parts judged.lefts.items told.left (and_second (told_among judged == 0) (length (filter leaves_something judged.lefts.items) == 0) every));
     }
 
 pub ok_weaker : {X E : Type 0} (r : Result X E) (P Q : X → Type 0) → ((x : X) → P x → Q x) → IfOk r P → IfOk r Q

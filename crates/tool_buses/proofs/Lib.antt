@@ -1,2 +1,3 @@
 pub mod BusLefts
 pub mod SharedLaws
+pub mod AloneLaws

@@ -1,6 +1,8 @@
 -- A script that is read, cut into parts, and judged by what each part leaves behind.
-use Rattle.std.specs.Prelude.{ℕ, ◌≡◌, ◌≢◌, true, Option, Some, None, List, [], ◌∷◌, map, flat_map}
+use Rattle.std.specs.Prelude.{ℕ, ◌≡◌, ◌≢◌, true, Option, Some, None, List, [], ◌∷◌, map, flat_map, length}
 use Rattle.bus_legal.specs.Description.{Description}
+use Rattle.bus_legal.specs.Parts.{Parts, description_in}
+use Rattle.terminal_rules.specs.LookBack.{keep}
 use Rattle.terminal_bus.specs.declared.event.BusEvent.{BusEvent}
 use Rattle.terminal_bus.specs.Members.{powered_up}
 use Rattle.terminal_bus.specs.Lists.{Each}
@@ -8,11 +10,13 @@ use Rattle.terminal_schedules.specs.Left.{left_alone, EndInEveryOrder}
 use Rattle.script_terminals.specs.BusReading.{Said, BusReading}
 use Rattle.script_terminals.specs.Playing.{reading_of}
 use Rattle.bus_reports.specs.declared.judged.PartLeft.{PartLeft}
+use Rattle.bus_reports.specs.declared.judged.JudgedMessage.{JudgedMessage}
 use Rattle.bus_reports.specs.declared.judged.Judgement.{Judgement}
 use Rattle.bus_reports.specs.Outcomes.{in_every_order}
 use Rattle.tool_buses.specs.declared.reading.SaidEvent.{SaidEvent}
 use Rattle.tool_buses.specs.declared.reading.ReadScript.{ReadScript}
 use Rattle.tool_buses.specs.declared.parts.ScriptPart.{ScriptPart}
+use Rattle.tool_buses.specs.EndsWell.{reasons_of_part}
 
 abbrev pub said_shown : SaidEvent → Said
 said_shown s = record { line = s.line; event = s.event }
@@ -53,15 +57,22 @@ abbrev pub part_left : List Description → ScriptPart → PartLeft
 part_left Ps part = record { line = part.line; left = left_alone Ps part.events.items }
 
 -- all of a script is read for terminals so described, and cut; and so much of what it leaves behind is told
-pub record IsCutScript (Ps : List Description) (source : ℕ → ℕ) (script : List ℕ) (lefts : List PartLeft) : Type 0 where
+pub record IsCutScript (Ps : List Description) (source : ℕ → ℕ) (script : List ℕ) (parts : List ScriptPart) (lefts : List PartLeft) : Type 0 where
   pub said : List SaidEvent
   pub reads : reading_of (powered_up Ps) script ≡ record { said = map said_shown said; fault = None }
-  pub parts : List ScriptPart
   pub cut : IsCut source said parts
   pub left : lefts ≡ map (part_left Ps) parts
 
--- What is told of each part of a script is what it leaves behind. Where each message is said to end well in every order, the parts of the
--- script do: from power-up, in any order and any number of times, each ends as it does alone.
-pub record JudgesOrder (Ps : List Description) (source : ℕ → ℕ) (script : List ℕ) (judged : Judgement) : Type 0 where
-  pub told : IsCutScript Ps source script judged.lefts.items
-  pub order : in_every_order judged ≡ true → EndInEveryOrder Ps (map (λ part. part.events.items) told.parts)
+-- how many reasons are told why a message doesn't end well alone
+abbrev pub told_alone : JudgedMessage → ℕ
+told_alone message = length message.alone.items
+
+-- What is told of each part of a script is what it leaves behind, and of each that is a message why it doesn't end well alone. Where each message is said
+-- to end well in every order, it does: alone no terminal has a reason why not, and the parts of the script, from power-up, in any order and any number of
+-- times, end as each does alone.
+pub record JudgesOrder (vs : List Parts) (source : ℕ → ℕ) (script : List ℕ) (judged : Judgement) : Type 0 where
+  pub parts : List ScriptPart
+  pub told : IsCutScript (map description_in vs) source script parts judged.lefts.items
+  pub alone : map told_alone judged.messages.items ≡ keep (reasons_of_part vs) parts
+  pub well : in_every_order judged ≡ true → Each (λ n. n ≡ 0) (keep (reasons_of_part vs) parts)
+  pub order : in_every_order judged ≡ true → EndInEveryOrder (map description_in vs) (map (λ part. part.events.items) parts)

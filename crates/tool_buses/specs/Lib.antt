@@ -1,4 +1,5 @@
 pub mod Troubles
+pub mod EndsWell
 pub mod LegalCounts
 pub mod Loading
 pub mod Powered

@@ -1,2 +1,3 @@
 -- What the contracts of private functions speak of.
 pub mod Crowded
+pub mod Results

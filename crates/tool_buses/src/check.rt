@@ -1,13 +1,16 @@
 //! Which messages of a file don't end well on a bus: each alone from power-up, and in the run of the whole file.
-ghost use Rattle.std.specs.Prelude.{◌≡◌, ◌≤◌, ◌↔◌, ℕ, List, IfOk, true, option_map};
-ghost use Rattle.bus_legal.specs.Description.{Description};
+ghost use Rattle.std.specs.Prelude.{◌≡◌, ◌≤◌, ◌↔◌, ℕ, IfOk, map, true, option_map};
+ghost use Rattle.bus_legal.specs.Parts.{description_in};
+ghost use Rattle.terminal_rules.specs.LookBack.{keep};
 ghost use Rattle.refused_lines.specs.Sources.{line_in_file};
 ghost use Rattle.bus_reports.specs.Outcomes.{file_passes, told_among};
-ghost use Rattle.tool_buses.specs.Cut.{IsCutScript, JudgesOrder};
+ghost use Rattle.tool_buses.specs.Cut.{told_alone, IsCutScript, JudgesOrder};
+ghost use Rattle.tool_buses.specs.EndsWell.{reasons_alone, reasons_of_part};
 ghost use Rattle.tool_buses.specs.Powered.{IsPowered};
 ghost use Rattle.tool_buses.specs.Troubles.{IsCheckStatus, told_status};
 
-use crate::messages::{FileMessage, FoundMessages, messages_in};
+use crate::alone::alone_reasons;
+use crate::messages::{FileMessage, FoundMessages, messages_in, put_by};
 use crate::names::BusNames;
 use crate::order::{CutScript, cut_script, judgement_of};
 use crate::parts::ScriptPart;
@@ -15,11 +18,11 @@ use crate::play::{refused_script, warn};
 use crate::rated::rates_in;
 use crate::reading::SaidEvent;
 use crate::refused::script_on_bus;
-use crate::watch::{SpokenTo, WatchedBus};
+use crate::watch::WatchedBus;
 use ascii_json::json_line;
 use bus_reports::{
     BusLoad, CheckOutcome, CheckReport, CheckedProfile, JudgedMessage, Judgement, LoadTimes,
-    check_json, check_junit, judged_text, load_of, told_in,
+    PutMessage, check_json, check_junit, judged_text, load_of, told_in,
 };
 use message_names::owned;
 use rt1553::Normal;
@@ -40,9 +43,9 @@ use tool_files::{
 #[derive(Drop)]
 pub struct CheckedBus<'a> {
     pub profiles: Vec<CheckedProfile<'a>>,
-    /// Of different addresses.
+    /// Those of the terminals, in their order.
     pub normals: Vec<Normal>,
-    /// Their terminals at power-up, in the order of their addresses.
+    /// The terminals of the profiles at power-up, in the order of their addresses.
     pub bus: TerminalBus<Normal>,
     pub names: BusNames<'a>,
 }
@@ -54,51 +57,60 @@ struct JudgedFile {
     judged: Result<Judgement, ToolFault>,
 }
 
-/// Why a message doesn't end well that comes alone, at power-up, to the terminals that it speaks to; empty where it does. The others
-/// of the bus would be silent.
-fn alone_reasons(
-    alloc: Global,
-    message: &FileMessage,
-    parts: &[ScriptPart],
-    on: &CheckedBus<'_>,
-) -> Result<Vec<String>, ToolFault> {
-    let mut alone = message.fresh_copy();
-    let mut watched = WatchedBus::power_up(alloc, on.normals.as_slice(), message.spoken_to)?;
-    if let Some(part) = parts.get(message.part) {
-        for event in part.events.as_slice() {
-            watched.play_event(event, part.line, &mut alone)?;
-        }
-    }
-    watched.end(&mut alone)?;
-    Ok(alone.reasons(on.normals.as_slice())?)
-}
-
-/// What comes of a message, by its two playings.
+/// What comes of a message that is a part of a script, by its two playings.
 fn judged_message(
     alloc: Global,
-    message: &FileMessage,
-    parts: &[ScriptPart],
+    put: PutMessage,
+    part: &ScriptPart,
+    in_run: Vec<String>,
     on: &CheckedBus<'_>,
-) -> Result<JudgedMessage, ToolFault> {
+) -> Result<JudgedMessage, AllocError>
+    ensures { IfOk result (λ it. IsPowered (map description_in on.now.normals.items) on.now.bus → told_alone it ≡ reasons_alone put on.now.normals.items part.now.events.items) }
+{
+    let (events, normals) = (part.events.as_slice(), on.normals.as_slice());
     Ok(JudgedMessage {
-        line: message.line,
-        command: message.put.command,
-        name: owned(alloc, on.names.name_of(message.put))?,
-        alone: alone_reasons(alloc, message, parts, on)?,
-        in_run: message.reasons(on.normals.as_slice())?,
+        line: part.line,
+        command: put.command,
+        name: owned(alloc, on.names.name_of(put))?,
+        alone: alone_reasons(alloc, put, events, &on.bus, normals)?,
+        in_run,
     })
 }
 
-/// What comes of messages that were played in the run.
+/// Why the first of these messages doesn't end well in the run, if there is one, and those behind it.
+fn first_in_run<'a>(
+    alloc: Global,
+    messages: &'a [FileMessage],
+    on: &CheckedBus<'_>,
+) -> Result<(Vec<String>, &'a [FileMessage]), AllocError> {
+    match messages {
+        [first, others @ ..] => Ok((
+            first
+                .in_run
+                .reasons(alloc, first.put, on.normals.as_slice())?,
+            others,
+        )),
+        [] => Ok((Vec::new(alloc), messages)),
+    }
+}
+
+/// What comes of the messages that are parts of a script. These were played in the run.
 fn judged_messages(
     alloc: Global,
     messages: &[FileMessage],
     parts: &[ScriptPart],
     on: &CheckedBus<'_>,
-) -> Result<Vec<JudgedMessage>, ToolFault> {
+) -> Result<Vec<JudgedMessage>, AllocError>
+    ensures { IfOk result (λ judged. IsPowered (map description_in on.now.normals.items) on.now.bus → map told_alone judged.items ≡ keep (reasons_of_part on.now.normals.items) parts.now) }
+{
     let mut judged = Vec::new(alloc);
-    for message in messages {
-        judged.push(judged_message(alloc, message, parts, on)?)?;
+    let mut messages = messages;
+    for part in parts {
+        if let Some(put) = put_by(part.events.as_slice()) {
+            let (in_run, others) = first_in_run(alloc, messages, on)?;
+            messages = others;
+            judged.push(judged_message(alloc, put, part, in_run, on)?)?;
+        }
     }
     Ok(judged)
 }
@@ -129,7 +141,7 @@ fn play_run<R: AllocGlobal + Eprint>(
     on: &CheckedBus<'_>,
 ) -> Result<(), ToolFault> {
     let alloc = rt.alloc();
-    let mut watched = WatchedBus::power_up(alloc, on.normals.as_slice(), SpokenTo::ALL)?;
+    let mut watched = WatchedBus::power_up(alloc, &on.bus, on.normals.as_slice())?;
     let numbers = found.numbers.as_slice();
     let warnings = watched.play(alloc, said, numbers, &mut found.messages)?;
     watched.end(&mut found.messages)?;
@@ -158,7 +170,8 @@ fn judge_cut<R: AllocGlobal + Eprint>(
     on: &CheckedBus<'_>,
     times: LoadTimes,
 ) -> Result<Judgement, ToolFault>
-    ensures { IfOk result (λ judged. (Ps : List Description) (source : ℕ → ℕ) → IsPowered Ps on.now.bus → IsCutScript Ps source script.now.text.items cut.lefts.items → JudgesOrder Ps source script.now.text.items judged) }
+    ensures { IfOk result (λ judged. (source : ℕ → ℕ) → IsPowered (map description_in on.now.normals.items) on.now.bus → IsCutScript (map description_in on.now.normals.items) source script.now.text.items cut.parts.items cut.lefts.items →
+        JudgesOrder on.now.normals.items source script.now.text.items judged) }
 {
     let parts = cut.parts.as_slice();
     let mut found = messages_in(rt.alloc(), parts)?;
@@ -177,7 +190,7 @@ fn judge_script<R: AllocGlobal + Eprint>(
     on: &CheckedBus<'_>,
     times: LoadTimes,
 ) -> Result<Judgement, ToolFault>
-    ensures { IfOk result (λ judged. (Ps : List Description) → IsPowered Ps on.now.bus → JudgesOrder Ps (line_in_file (option_map (λ lines. lines.items) script.now.sources)) script.now.text.items judged) }
+    ensures { IfOk result (λ judged. IsPowered (map description_in on.now.normals.items) on.now.bus → JudgesOrder on.now.normals.items (line_in_file (option_map (λ lines. lines.items) script.now.sources)) script.now.text.items judged) }
 {
     let cut = cut_script(
         rt.alloc(),

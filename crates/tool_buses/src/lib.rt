@@ -2,7 +2,9 @@
 //! that is judged as a schedule of a bus controller.
 #![tactic(auto)]
 
+mod alone;
 mod check;
+mod ended;
 mod legal;
 mod list;
 mod messages;

@@ -1,4 +1,7 @@
 //! The names of messages by the tables of the terminals of a bus.
+ghost use Rattle.std.specs.Prelude.{◌≡◌};
+ghost use Rattle.tool_buses.specs.EndsWell.{profile_has};
+
 use bus_reports::PutMessage;
 use bus_word::Command;
 use message_names::MessageNames;
@@ -28,8 +31,10 @@ pub fn normal_at(normals: &[Normal], address: u8) -> Option<&Normal> {
 }
 
 /// Whether a profile has this address.
-pub fn has_profile(normals: &[Normal], address: u8) -> bool {
-    normal_at(normals, address).is_some()
+pub fn has_profile(normals: &[Normal], address: u8) -> bool
+    ensures { result ≡ profile_has normals.now address }
+{
+    normals.iter().any(|normal| normal.address() == address)
 }
 
 impl<'a> BusNames<'a> {

@@ -1,11 +1,14 @@
 //! A script that is read and cut, and whether its messages end well in every order.
-ghost use Rattle.std.specs.Prelude.{◌≤◌, List, ℕ, IfOk, IfNone, option_map};
+ghost use Rattle.std.specs.Prelude.{◌≡◌, List, ℕ, IfOk, IfNone, map, option_map};
 ghost use Rattle.bus_legal.specs.Description.{Description};
+ghost use Rattle.bus_legal.specs.Parts.{Parts, description_in};
 ghost use Rattle.refused_lines.specs.Sources.{line_in_file};
-ghost use Rattle.terminal_bus.specs.Lists.{Each};
-ghost use Rattle.terminal_bus.specs.OneSpeaker.{AddressesDiffer};
-ghost use Rattle.tool_buses.specs.Cut.{IsCutScript, JudgesOrder};
+ghost use Rattle.terminal_rules.specs.LookBack.{keep};
+ghost use Rattle.terminal_bus.specs.declared.bus.TerminalBus.{TerminalBus as PoweredBus};
+ghost use Rattle.tool_buses.specs.Cut.{told_alone, IsCutScript, JudgesOrder};
+ghost use Rattle.tool_buses.specs.EndsWell.{reasons_of_part};
 ghost use Rattle.tool_buses.specs.Powered.{IsPowered};
+ghost use Rattle.tool_buses.specs.declared.parts.ScriptPart.{ScriptPart as FilePart};
 
 use crate::parts::{ScriptPart, lefts_of, parts_of};
 use crate::reading::{SaidEvent, read_script};
@@ -33,7 +36,7 @@ pub fn cut_script(
     script: &[u8],
     sources: Option<&[u64]>,
 ) -> Result<CutScript, AllocError>
-    ensures { IfOk result (λ cut. IfNone cut.fault ((Ps : List Description) → IsPowered Ps bus.now → IsCutScript Ps (line_in_file (option_map (λ s. s.now) sources.entry)) script.now cut.lefts.items)) }
+    ensures { IfOk result (λ cut. IfNone cut.fault ((Ps : List Description) → IsPowered Ps bus.now → IsCutScript Ps (line_in_file (option_map (λ s. s.now) sources.entry)) script.now cut.parts.items cut.lefts.items)) }
 {
     let read = read_script(alloc, bus, script)?;
     let parts = parts_of(alloc, read.said.as_slice(), sources)?;
@@ -52,7 +55,8 @@ pub fn judgement_of(
     lefts: Vec<PartLeft>,
     load: Option<BusLoad>,
 ) -> Judgement
-    ensures { (Ps : List Description) (source : ℕ → ℕ) (script : List ℕ) → AddressesDiffer Ps → Each (λ P. P.address ≤ 30) Ps → IsCutScript Ps source script lefts.items → JudgesOrder Ps source script result }
+    ensures { (vs : List Parts) (bus : PoweredBus Parts) (source : ℕ → ℕ) (script : List ℕ) (parts : List FilePart) → IsPowered (map description_in vs) bus →
+        IsCutScript (map description_in vs) source script parts lefts.items → map told_alone messages.items ≡ keep (reasons_of_part vs) parts → JudgesOrder vs source script result }
 {
     Judgement {
         messages,

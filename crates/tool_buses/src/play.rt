@@ -5,9 +5,9 @@ ghost use Rattle.tool_buses.specs.Troubles.{IsBusStatus, IsCheckStatus};
 use crate::check::{CheckedBus, check_on_bus};
 use crate::list::list_on_bus;
 use crate::names::load_tables;
-use crate::powered::bus_of;
+use crate::powered::{bus_of, in_order};
 use crate::reading::read_script;
-use crate::watch::{SpokenTo, WatchedBus};
+use crate::watch::WatchedBus;
 use bus_reports::CheckedProfile;
 use refused_lines::{first_line, misfit_of};
 use rt1553::Normal;
@@ -242,7 +242,7 @@ fn check_bus<'a, R: Files + AllocGlobal + Eprint, W: Write>(
     let tables = load_tables(rt, tables, normals.as_slice())?;
     let on = CheckedBus {
         profiles: checked_profiles(rt.alloc(), names, profiles.as_slice())?,
-        normals,
+        normals: in_order(rt.alloc(), normals.as_slice())?,
         bus,
         names: tables,
     };
@@ -270,7 +270,8 @@ fn play_script<R: Files + AllocGlobal + Eprint, W: Write>(
             write_played(rt, name, &script, bus, told, output)
         }
         BusOutput::Messages => {
-            let watched = WatchedBus::power_up(rt.alloc(), normals, SpokenTo::ALL)?;
+            let ordered = in_order(rt.alloc(), normals)?;
+            let watched = WatchedBus::power_up(rt.alloc(), &bus, ordered.as_slice())?;
             let read = read_script(rt.alloc(), &bus, script.text.as_slice())?;
             list_on_bus(rt, name, &script, &read, watched, output)
         }

@@ -1,13 +1,14 @@
 //! A bus of the terminals of profiles at power-up.
-ghost use Rattle.std.specs.Prelude.{◌≡◌, ◌≤◌, true, false, List, [], ◌∷◌, ◌++◌, length, IfOk, IfErr, OnOk};
+ghost use Rattle.std.specs.Prelude.{◌≡◌, ◌≤◌, true, false, List, [], ◌∷◌, ◌++◌, length, IfOk, IfErr, OnOk, map};
 ghost use Rattle.std.specs.String.{string_bytes};
 ghost use Rattle.bus_legal.specs.Description.{Description};
+ghost use Rattle.bus_legal.specs.Parts.{description_in};
 ghost use Rattle.bus_reports.specs.Outcomes.{EndsWith};
 ghost use Rattle.tool_buses.specs.Powered.{IsPowered, IsShared, TellsShared, described_at, described_below, shared_words};
 ghost use Rattle.tool_buses.specs.inner.Crowded.{AreBelow, IsCrowded};
 
 use rt1553::Normal;
-use std::alloc::AllocError;
+use std::alloc::{AllocError, Global};
 use terminal_bus::TerminalBus;
 use tool_files::{ToolFault, shown};
 
@@ -54,6 +55,29 @@ fn power_up(normals: &[Normal]) -> Result<TerminalBus<Normal>, u8>
         }
     }
     Ok(bus)
+}
+
+/// Adds the profiles with this address.
+fn push_at(ordered: &mut Vec<Normal>, normals: &[Normal], address: u8) -> Result<(), AllocError>
+    ensures { OnOk result (map description_in ordered.new.items ≡ map description_in ordered.old.items ++ described_at address normals.now) }
+{
+    for normal in normals {
+        if normal.address() == address {
+            ordered.push(*normal)?;
+        }
+    }
+    Ok(())
+}
+
+/// Profiles in the order of their addresses, as their terminals stand on the bus.
+pub fn in_order(alloc: Global, normals: &[Normal]) -> Result<Vec<Normal>, AllocError>
+    ensures { IfOk result (λ ordered. map description_in ordered.items ≡ described_below 31 normals.now) }
+{
+    let mut ordered = Vec::new(alloc);
+    for address in 0..31u8 {
+        push_at(&mut ordered, normals, address)?;
+    }
+    Ok(ordered)
 }
 
 /// Adds why profiles that have the same address, 0 to 30, are refused.

@@ -7,22 +7,10 @@ use terminal_bus::{BusEvent, CameTo, TerminalBus};
 use terminal_messages::{ClosedMessages, KeptMessage, MessageEnding, MessageWatch};
 use tool_files::ToolFault;
 
-/// The address of all terminals.
-pub const ALL_TERMINALS: u8 = 31;
-
 /// What takes messages as they are over, each for the terminal of this address.
 pub trait TakesMessages {
     /// Takes a message.
     fn take(&mut self, address: u8, message: &KeptMessage) -> Result<(), ToolFault>;
-}
-
-/// To which terminals a message speaks.
-#[derive(Clone, Copy)]
-pub struct SpokenTo {
-    /// The address of its first command, 0 to 31, of which 31 stands for all terminals.
-    pub address: u8,
-    /// In a transfer between two terminals, the address of that which transmits.
-    pub transmitter: Option<u8>,
 }
 
 /// A terminal, and its messages.
@@ -75,49 +63,24 @@ impl WatchedTerminal {
     }
 }
 
-impl SpokenTo {
-    /// All terminals.
-    pub const ALL: SpokenTo = SpokenTo {
-        address: ALL_TERMINALS,
-        transmitter: None,
-    };
-
-    /// Whether the terminal of this address, 0 to 30, is one of them.
-    fn has(&self, address: u8) -> bool {
-        self.address == ALL_TERMINALS
-            || self.address == address
-            || self.transmitter == Some(address)
-    }
-}
-
 impl WatchedBus {
-    /// The bus of those terminals of profiles that are spoken to, at power-up and in the order of their addresses.
+    /// The terminals of a bus that stands at power-up, which are those of these profiles in their order.
     pub fn power_up(
         alloc: Global,
+        bus: &TerminalBus<Normal>,
         normals: &[Normal],
-        spoken_to: SpokenTo,
     ) -> Result<WatchedBus, AllocError> {
-        let mut watched = WatchedBus {
-            bus: TerminalBus::new(),
-            terminals: Vec::new(alloc),
-        };
-        for address in 0..31u8 {
-            if spoken_to.has(address) {
-                watched.add_at(normals, address)?;
-            }
-        }
-        Ok(watched)
-    }
-
-    /// Adds the terminals of profiles with this address, of which there is one at most.
-    fn add_at(&mut self, normals: &[Normal], address: u8) -> Result<(), AllocError> {
+        let mut terminals = Vec::new(alloc);
         for normal in normals {
-            if normal.address() == address && self.bus.add(normal.setup(), *normal).is_ok() {
-                let watch = MessageWatch::power_up(normal.setup(), *normal);
-                self.terminals.push(WatchedTerminal { address, watch })?;
-            }
+            terminals.push(WatchedTerminal {
+                address: normal.address(),
+                watch: MessageWatch::power_up(normal.setup(), *normal),
+            })?;
         }
-        Ok(())
+        Ok(WatchedBus {
+            bus: bus.copy(),
+            terminals,
+        })
     }
 
     /// Adds the event of the line of this number to the warnings, if it breaks the discipline of a controller.

@@ -38,7 +38,7 @@ fn drawing_fault<R: AllocGlobal>(rt: &R, name: &str, fault: DrawFault) -> ToolFa
 
 /// What a run is drawn as.
 #[derive(Drop)]
-struct DrawnRun {
+struct RunDrawing {
     drawing: String,
     /// The list of its messages, where it is drawn message by message, else empty.
     list: String,
@@ -51,15 +51,15 @@ fn drawn_run(
     names: Option<&MessageNames>,
     script: DrawnScript<'_>,
     folded: bool,
-) -> Result<DrawnRun, DrawFault>
+) -> Result<RunDrawing, DrawFault>
     ensures drawn { OnOk result (refusal (reading 0 (lines_of script.entry.text.now)) ≡ None) }
 {
     if folded {
         let drawing = draw_folded(alloc, normal, names, script)?;
         let list = messages_list(alloc, normal, names, script)?;
-        return Ok(DrawnRun { drawing, list });
+        return Ok(RunDrawing { drawing, list });
     }
-    Ok(DrawnRun {
+    Ok(RunDrawing {
         drawing: draw(alloc, normal, names, script)?,
         list: String::new(alloc),
     })
@@ -73,7 +73,7 @@ fn draw_file<R: Files + AllocGlobal + Eprint>(
     name: &str,
     expand_for: Option<u8>,
     folded: bool,
-) -> Result<DrawnRun, ToolFault>
+) -> Result<RunDrawing, ToolFault>
     ensures { IfOk result (λ drawn. (text : List ℕ) × (script : LoadedScript) × IsScriptOf expand_for text script × (refusal (reading 0 (lines_of script.text.items)) ≡ None)) }
 {
     let script = load_script(rt, name, expand_for)?;
@@ -102,7 +102,7 @@ fn page<R: AllocGlobal>(
     normal: &Normal,
     names: Option<&MessageNames>,
     title: &str,
-    run: &DrawnRun,
+    run: &RunDrawing,
 ) -> Result<String, ToolFault> {
     let mut foot = explain_page(rt.alloc(), normal, names)?;
     push_list_code(&mut foot)?;

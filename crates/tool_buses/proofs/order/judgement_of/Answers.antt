@@ -3,4 +3,4 @@ use Rattle.tool_buses.proofs.BusLefts.{judges_order}
 use Rattle.tool_buses.proofs.order.judgement_of.Goals as goal
 
 pub returns : goal.returns
-returns c Ps source script differ low cut = judges_order Ps source script c.args.lefts.items _ refl differ low cut
+returns c vs bus source script parts p cut alone = judges_order vs bus source script parts c.args.lefts.items _ refl p cut alone
