@@ -1,5 +1,5 @@
 -- What comes of a message at terminals of a bus, one after the other.
-use Rattle.std.proofs.Common.{◌≡◌, ◌∙◌, ◌<◌, ◌+◌, ◌==◌, ◌||◌, ℕ, zero, suc, Bool, true, false, if◌then◌else◌, Option, Some, None, Result, Ok, Err, OnOk, List, [], ◌∷◌, ◌++◌, length, take, map, flat_map, get_or, slice_get, arith, refl, ap, sym, subst, append_assoc, append-nil}
+use Rattle.std.proofs.Common.{◌≡◌, ◌∙◌, ◌<◌, ◌+◌, ◌==◌, ◌||◌, ℕ, zero, suc, Option, Some, None, Result, Ok, Err, OnOk, List, [], ◌∷◌, ◌++◌, length, take, map, flat_map, get_or, slice_get, arith, refl, ap, sym, subst, append-nil}
 use Rattle.std.specs.List.{list_any}
 use Rattle.std.specs.Option.{option_map}
 use Rattle.std.proofs.lemmas.List.{map-append, take_more}
@@ -12,10 +12,9 @@ use Rattle.terminal_rules.specs.declared.event.Event.{Event}
 use Rattle.terminal_rules.specs.Past.{history_after}
 use Rattle.terminal_bus.specs.declared.event.BusEvent.{BusEvent}
 use Rattle.terminal_bus.specs.declared.bus.TerminalBus.{TerminalBus}
-use Rattle.terminal_bus.specs.Members.{Member, member_of, member_at, powered_up, play, bus_after, events_for, after_events, all_events_for}
+use Rattle.terminal_bus.specs.Members.{Member, member_of, powered_up, play, bus_after, events_for, after_events, all_events_for}
 use Rattle.terminal_bus.proofs.CameLaw.{after_at}
 use Rattle.terminal_bus.proofs.Law.{alone_law}
-use Rattle.terminal_bus.proofs.Sent.{after_both}
 use Rattle.terminal_messages.specs.declared.fold.ClosedMessages.{ClosedMessages}
 use Rattle.terminal_messages.specs.declared.kept.KeptMessage.{KeptMessage}
 use Rattle.terminal_messages.specs.declared.watch.MessageWatch.{MessageWatch}

@@ -22,7 +22,6 @@ use Rattle.terminal_bus.specs.declared.bus.NotAdded.TheVariants.{SameAddress, Fu
 use Rattle.terminal_bus.specs.AtMembers.{not_added}
 use Rattle.terminal_bus.specs.Discipline.{has_address}
 use Rattle.terminal_bus.specs.Lists.{Each, EachTwo}
-use Rattle.terminal_bus.specs.OneSpeaker.{AddressesDiffer}
 use Rattle.script_lines.specs.Text.{lines_of}
 use Rattle.script_terminals.specs.declared.playing.BusScriptFault.{BusScriptFault}
 use Rattle.script_terminals.specs.BusReading.{Said, BusReading, adds_said, then_says, bus_reading, said_in}

@@ -7,7 +7,7 @@ use Rattle.bus_legal.specs.Parts.{Parts}
 use Rattle.bus_legal.proofs.NormalLaws.{set_up_normal}
 use Rattle.terminal_bus.specs.Came.{events_that_came}
 use Rattle.terminal_bus.specs.declared.event.BusEvent.{BusEvent}
-use Rattle.terminal_bus.specs.Members.{Member, bus_after, play, powered_up}
+use Rattle.terminal_bus.specs.Members.{Member, play, powered_up}
 use Rattle.terminal_messages.specs.declared.kept.KeptMessage.{KeptMessage}
 use Rattle.terminal_messages.specs.Watch.{WatchStands}
 use Rattle.tool_buses.proofs.AloneLaws.{WatchedAt, watched_none, watched_step, watched_place}

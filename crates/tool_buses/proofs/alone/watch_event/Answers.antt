@@ -1,6 +1,5 @@
-use Rattle.std.proofs.Common.{List, refl, sym, subst}
+use Rattle.std.proofs.Common.{refl, sym, subst}
 use Rattle.std.specs.Option.{option_to_list}
-use Rattle.bus_legal.specs.Description.{Description}
 use Rattle.terminal_rules.specs.Past.{history_after}
 use Rattle.tool_buses.specs.inner.Results.{HasWatched}
 use Rattle.tool_buses.proofs.AloneLaws.{on_ok_weaker, watched_more}

@@ -1,6 +1,4 @@
-use Rattle.std.proofs.Common.{◌≡◌, ◌∙◌, None, Some, ap, map, sym, subst}
-use Rattle.terminal_rules.specs.LookBack.{keep}
-use Rattle.bus_reports.specs.declared.judged.JudgedMessage.{JudgedMessage}
+use Rattle.std.proofs.Common.{◌∙◌, ap, map, sym}
 use Rattle.tool_buses.specs.Cut.{told_alone}
 use Rattle.tool_buses.specs.EndsWell.{message_put}
 use Rattle.tool_buses.proofs.BusLefts.{told_one, told_other}

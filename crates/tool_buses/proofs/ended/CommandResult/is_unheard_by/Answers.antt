@@ -1,4 +1,4 @@
-use Rattle.std.proofs.Common.{◌==◌, ◌&&◌, ◌∙◌, List, not, ap}
+use Rattle.std.proofs.Common.{◌==◌, ◌&&◌, ◌∙◌, not, ap}
 use Rattle.std.specs.List.{list_any}
 use Rattle.tool_buses.specs.EndsWell.{is_transmitter_at}
 use Rattle.tool_buses.proofs.AloneLaws.{seen_by}
